@@ -1,0 +1,5 @@
+pub mod Lists
+pub mod Tests
+pub mod Bounded
+pub mod Masks
+pub mod Tables

@@ -1,0 +1,6 @@
+pub mod Sets
+pub mod Lists
+pub mod Tests
+pub mod Bounded
+pub mod Masks
+pub mod Tables

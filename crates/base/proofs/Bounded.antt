@@ -7,9 +7,9 @@ use native.Mathlib.Nat.{le-of-suc-le-suc, not-suc-le-zero, eq-or-lt-of-le}
 use native.Mathlib.Omega.{arith}
 use native.Mathlib.Decide.{decLt}
 use lib.Dec.{T}
-use Rattle.base.specs.Tests.{pick, both}
+use Rattle.base.specs.Tests.{pick}
 use Rattle.base.specs.Bounded.{all, least, seek}
-use Rattle.base.proofs.Tests.{both-l, both-r, both-of}
+use Rattle.base.proofs.Tests.{true-T, both-l, both-r, both-of}
 
 pub all-at : (f : ℕ → Bool) (k : ℕ) → T (all f k) → (i : ℕ) → i < k → T (f i)
 unfolding all
@@ -22,6 +22,13 @@ pub all-of : (f : ℕ → Bool) (k : ℕ) → ((i : ℕ) → i < k → T (f i)) 
 unfolding all
 all-of f zero h = tt
 all-of f (suc k) h = both-of (all f k) (f k) (all-of f k (λ i l. h i (omega arith))) (h k (omega arith))
+
+pub all-fails : (f : ℕ → Bool) (k i : ℕ) → i < k → f i ≡ false → all f k ≡ false
+all-fails f k i h e = go (all f k) refl
+  where
+    go : (b : Bool) → all f k ≡ b → all f k ≡ false
+    go true q = absurd (rw e at (all-at f k (true-T (all f k) q) i h))
+    go false q = q
 
 -- ---- the least of some numbers
 pub least-le : (top : ℕ) (f : ℕ → ℕ) (k i : ℕ) → i < k → least top f k ≤ f i

@@ -1,5 +1,5 @@
 -- Masks by their members. Assumes nothing.
-use mathlib.Core.Path.{_≡_, refl, sym, ap, _∙_, subst}
+use mathlib.Core.Path.{_≡_, refl, sym, ap, _∙_}
 use mathlib.Core.Bool.{Bool, true, false, not}
 use mathlib.Core.Logic.{_⊎_, inl, inr, ⊎-elim, _↔_}
 use Prim.Native.Nat.{ℕ, zero, suc, _+_, _*_, _/_, _%_, _^_, _≤_, _<_, max, min}
@@ -8,7 +8,7 @@ use native.Mathlib.Omega.{arith}
 use native.Mathlib.Decide.{decLt}
 use native.Mathlib.Numerals.{one-add}
 use lib.Arith.{bin-ind}
-use lib.Dec.{T, eqb, ltb, eqb→eq, eqb-refl, not-T, lt→ltb, ltb→lt}
+use lib.Dec.{T, eqb, ltb, eqb→eq, not-T, lt→ltb, ltb→lt}
 use lib.Bits.{bitOr, bitAnd, or-shr, or-step, and-shr, and-step, and-mask}
 use lib.Pow.{shr-shr, pow-pos, pow-mono, pow-lt}
 use borrow.Author.Tests.{eq-eqb, ne-eqb, ltb-true, ltb-false, lt-ltb}
@@ -16,7 +16,7 @@ use Rattle.base.specs.Sets.{In, NoBitFrom}
 use Rattle.base.specs.Tests.{pick}
 use Rattle.base.specs.Bounded.{union}
 use Rattle.base.specs.Masks.{member, clearFrom, added, inside}
-use Rattle.base.proofs.Tests.{eq-T, pick-yes}
+use Rattle.base.proofs.Tests.{eq-T, pick-yes, pick-no}
 
 -- bit s of w
 abbrev bit : ℕ → ℕ → ℕ
@@ -211,14 +211,21 @@ in-added w s t l h =
     (⊎-elim (in-or-l w (2 ^ s) t) (λ (e : t ≡ s). in-or-r w (2 ^ s) t (rw e (in-one s))) h)
 
 -- ---- as the code has them
+-- w | 1 << s
+pub added-here : (w s : ℕ) → s < 64 → bitOr w (1 * 2 ^ s % 2 ^ 64) ≡ added w s
+unfolding added
+added-here w s h =
+    ap (λ (x : ℕ). bitOr w x) (ap (λ (x : ℕ). x % 2 ^ 64) (one-mul (2 ^ s)) ∙ mod-eq-of-lt (pow-lt h))
+    ∙ sym (pick-yes (ltb s 64) (bitOr w (2 ^ s)) w (lt→ltb s 64 h))
+
+pub added-none : (w s : ℕ) → 64 ≤ s → w ≡ added w s
+unfolding added
+added-none w s h = sym (pick-no (ltb s 64) (bitOr w (2 ^ s)) w (λ t. omega (arith, ltb→lt s 64 t)))
+
 -- (w >> s) & 1 == 1
 pub shifted : (w s : ℕ) → eqb (bitAnd (w / 2 ^ s) 1) 1 ≡ member w s
 unfolding member
 shifted w s = ap (λ (x : ℕ). eqb x 1) (and-mask (w / 2 ^ s) 1)
-
--- 1 << s
-pub shl-one : (s : ℕ) → s < 64 → 1 * 2 ^ s % 2 ^ 64 ≡ 2 ^ s
-shl-one s h = ap (λ (x : ℕ). x % 2 ^ 64) (one-mul (2 ^ s)) ∙ mod-eq-of-lt (pow-lt h)
 
 -- w >> n == 0
 pub shr-zero : (n w : ℕ) → eqb (w / 2 ^ n) 0 ≡ clearFrom n w

@@ -1,28 +1,26 @@
 -- Assembling on values answers as 01 says, and 01 leaves no other answer. Assumes nothing.
 use mathlib.Core.Path.{_≡_, refl, sym, ap, ap₂, _∙_, subst}
 use mathlib.Core.Bool.{Bool, true, false}
-use mathlib.Core.Logic.{_⊎_, inl, inr, ⊎-elim, _↔_}
+use mathlib.Core.Logic.{inl, inr, ⊎-elim, _↔_}
 use mathlib.Core.List.{List, [], _∷_, _++_}
-use Prim.Native.Nat.{ℕ, zero, suc, _+_, _-_, _*_, _≤_, _<_}
+use Prim.Native.Nat.{ℕ, suc, _+_, _-_, _*_, _≤_, _<_}
 use native.Mathlib.Omega.{arith}
 use native.Mathlib.Decide.{decLt}
 use lib.Dec.{T, eqb, eqb→eq}
 use borrow.Author.Tests.{eqb-true, eqb-false}
 use lib.ListN.{length, getD, replicate, length-append, length-replicate, getD-replicate, List·getD-append}
 use lib.Seq.{getD-append-add, ext-getD}
-use Rattle.base.specs.Sets.{In}
-use Rattle.base.specs.Lists.{Each}
 use Rattle.base.specs.Tests.{pick}
 use Rattle.base.proofs.Lists.{each-at}
 use Rattle.base.proofs.Tests.{true-T}
 use Rattle.base.proofs.Masks.{in-zero, nonzero-some}
-use Rattle.reversal.specs.Device.{Device, Proper}
+use Rattle.reversal.specs.Device.{Device}
 use Rattle.reversal.specs.Reversal.{Item, AllowedItem}
-use Rattle.reversal.specs.Runs.{Run, AllowedRun, last, History, Possible}
-use Rattle.reversal.specs.Chains.{Fits, absent, item, lower, Chain, plan, legs, cost, none, LexLe, Best, Fewest}
+use Rattle.reversal.specs.Runs.{Run, last, History}
+use Rattle.reversal.specs.Chains.{Fits, absent, item, lower, Chain, plan, cost, none, LexLe, Best, Fewest}
 use Rattle.reversal.specs.Answers.{Allowed, Answer, refused, assembled, Numbers, Answers, no-history, no-chain, done}
 use Rattle.reversal.specs.Computed.Beliefs.{belief}
-use Rattle.reversal.specs.Computed.Least.{Rule, Linked, total, leasts, leastAt, chosen}
+use Rattle.reversal.specs.Computed.Least.{Linked, total, leasts, leastAt, chosen}
 use Rattle.reversal.specs.Computed.Assembly.{fits, rule, numbers, answer}
 use Rattle.reversal.proofs.Histories.{possible↔, percept-states}
 use Rattle.reversal.proofs.Shortest.{leasts-length, leasts-at, least-chain, least-most, chosen-linked, chosen-lowest, least-cases}

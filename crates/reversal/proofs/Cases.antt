@@ -1,12 +1,11 @@
 -- The joint table of the twelve cases: each right side is what the computed forms give, carried to paths, histories and chains. Assumes nothing.
 use mathlib.Core.Path.{_≡_, refl, subst}
-use mathlib.Core.Bool.{Bool, true, false}
 use mathlib.Core.List.{List, [], _∷_}
 use Prim.Native.Nat.{ℕ, suc, _+_, _*_, _≤_, _<_}
 use native.Mathlib.Omega.{arith}
 use lib.Dec.{T, lit<, lit≤}
 use lib.ListN.{length, getD}
-use Rattle.base.specs.Sets.{In, NoBitFrom}
+use Rattle.base.specs.Sets.{NoBitFrom}
 use Rattle.base.specs.Lists.{Each}
 use Rattle.base.specs.Tests.{pick, both, imp}
 use Rattle.base.specs.Bounded.{all, union, least, seek}
@@ -14,16 +13,15 @@ use Rattle.base.specs.Masks.{member, clearFrom, inside}
 use mathlib.Core.Logic.{_↔_}
 use Rattle.base.proofs.Bounded.{all-at}
 use Rattle.base.proofs.Masks.{clear↔, in-zero}
-use Rattle.reversal.specs.Device.{Device, Transition, Proper, entry, tabled}
+use Rattle.reversal.specs.Device.{Transition, Proper, entry}
 use Rattle.reversal.specs.Reversal.{Item, AllowedItem, Leads, Accepted}
-use Rattle.reversal.specs.Runs.{Run, AllowedRun}
-use Rattle.reversal.specs.Chains.{Chain}
+use Rattle.reversal.specs.Runs.{Run}
 use Rattle.reversal.specs.Answers.{Allowed, Answer, Answers}
-use Rattle.reversal.specs.Twelve.{Q, made, itemsQ, run, NoChain, NoHistory, Twelve}
+use Rattle.reversal.specs.Twelve.{Q, made, itemsQ, run, Twelve}
 use Rattle.reversal.specs.Computed.Sets.{after, able, reach, runsBack, ends, startOk, accepts}
 use Rattle.reversal.specs.Computed.Beliefs.{fore, back, hind, belief}
 use Rattle.reversal.specs.Computed.Least.{via, leasts, leastAt, begins, chosen}
-use Rattle.reversal.specs.Computed.Assembly.{sameList, fits, rule, numbers, answer}
+use Rattle.reversal.specs.Computed.Assembly.{sameList, fits, numbers, answer}
 use Rattle.reversal.proofs.Paths.{led→leads}
 use Rattle.reversal.proofs.Reversals.{tabled-proper, accepts↔}
 use Rattle.reversal.proofs.Assembling.{linked→chain, no-state, no-linked, answer-right}

@@ -1,16 +1,15 @@
 -- An item fits by the belief states exactly where it fits by histories. Assumes nothing.
 use mathlib.Core.Path.{_≡_, refl, ap₂, subst}
-use mathlib.Core.Bool.{Bool}
 use mathlib.Core.Logic.{_↔_}
 use mathlib.Core.List.{List, [], _∷_}
-use Prim.Native.Nat.{ℕ, _-_, _≤_, _<_}
+use Prim.Native.Nat.{ℕ, _-_, _≤_}
 use native.Mathlib.Omega.{arith}
 use lib.Dec.{T, eqb, leb, eqb→eq, eqb-refl, leb→le, le→leb}
 use lib.ListN.{length, take, drop}
 use Rattle.base.specs.Sets.{In, NoBitFrom}
 use Rattle.base.specs.Tests.{both}
 use Rattle.base.specs.Masks.{inside}
-use Rattle.base.proofs.Tests.{both-l, both-r, both-of, eq-T}
+use Rattle.base.proofs.Tests.{both-l, both-r, both-of}
 use Rattle.base.proofs.Masks.{inside-in, in-inside}
 use Rattle.reversal.specs.Device.{Device, Proper}
 use Rattle.reversal.specs.Reversal.{Item}

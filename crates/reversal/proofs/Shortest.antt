@@ -2,7 +2,7 @@
 use mathlib.Core.Path.{_≡_, refl, sym, ap, _∙_}
 use mathlib.Core.Bool.{Bool, true, false}
 use mathlib.Core.Logic.{_⊎_, inl, inr, ⊎-elim}
-use mathlib.Core.List.{List, [], _∷_, _++_}
+use mathlib.Core.List.{List, [], _∷_}
 use Prim.Native.Nat.{ℕ, zero, suc, _+_, _-_, _≤_, _<_, zero-le}
 use native.Mathlib.Nat.{not-suc-le-zero, eq-or-lt-of-le}
 use native.Mathlib.Omega.{arith}
@@ -10,7 +10,7 @@ use native.Mathlib.Decide.{decLt}
 use lib.Dec.{T, eqb, eqb→eq}
 use lib.ListN.{length, getD, List·getD-append, length-append}
 use lib.Seq.{getD-at}
-use Rattle.base.specs.Tests.{pick, both}
+use Rattle.base.specs.Tests.{pick}
 use Rattle.base.specs.Bounded.{least, seek}
 use Rattle.base.proofs.Tests.{both-l, both-r, both-of, eq-T, pick-yes}
 use Rattle.base.proofs.Bounded.{least-le, least-top, least-at, seek-hit, seek-low}

@@ -1,0 +1,106 @@
+-- One law for each way through the code of `entry_at`, `after` and `able`, over plain variables. Assumes nothing.
+use mathlib.Core.Path.{_≡_, refl, sym, ap, _∙_}
+use mathlib.Core.Bool.{Bool, true, false, not}
+use mathlib.Core.List.{List}
+use Prim.Native.Nat.{ℕ, _+_, _*_, _≤_, _<_}
+use native.Mathlib.Numerals.{add-one}
+use native.Mathlib.Nat.{mul-le-mul}
+use native.Mathlib.Omega.{arith}
+use borrow.Author.Tests.{lt-ltb, le-ltb, lt-leb, le-leb, ne-eqb}
+use lib.Bits.{bitOr, or-zero-r}
+use lib.Dec.{eqb}
+use lib.ListN.{length, getD, List·getD-eq-default}
+use Rattle.base.specs.Tests.{pick, both, imp}
+use Rattle.base.specs.Bounded.{all, union}
+use Rattle.base.specs.Masks.{member}
+use Rattle.base.proofs.Bounded.{all-fails}
+use Rattle.reversal.specs.Device.{entry}
+use Rattle.reversal.specs.Computed.Sets.{after, able}
+use Rattle.states.specs.declared.StateSet.{StateSet}
+use Rattle.states.specs.StateSets.{setOf, inLimits, afterIn, ableIn}
+
+-- ---- an entry of the table
+pub index-small : (s n m c : ℕ) → s < n → n ≤ 64 → m ≤ 32 → c < m → (s * m ≤ 2016) × (s * m + c < 2048)
+index-small s n m c hs hn hm hc =
+    let l : s * m ≤ 63 * 32 = mul-le-mul {n₂ = 63} (omega arith) hm in (omega arith, omega arith)
+
+module _ (n m : ℕ) (table : List ℕ) (s c : ℕ) where
+  pub entry-here : s < n → c < m → entry n m table s c ≡ getD table (s * m + c) 0
+  unfolding entry pick both
+  entry-here hs hc = rw (lt-ltb s n hs, lt-ltb c m hc)
+
+  pub entry-none : s < n → m ≤ c → entry n m table s c ≡ 0
+  unfolding entry pick both
+  entry-none hs hc = rw (lt-ltb s n hs, le-ltb c m hc)
+
+  pub entry-past : s < n → c < m → length table ≤ s * m + c → entry n m table s c ≡ 0
+  entry-past hs hc hl = entry-here hs hc ∙ List·getD-eq-default table 0 hl
+
+-- ---- limits
+pub in-limits : (n m : ℕ) → n ≤ 64 → m ≤ 32 → inLimits n m ≡ true
+unfolding inLimits both
+in-limits n m hn hm = rw (le-leb n 64 hn, le-leb m 32 hm)
+
+pub states-over : (n m : ℕ) → 64 < n → inLimits n m ≡ false
+unfolding inLimits both
+states-over n m h = rw (lt-leb n 64 h)
+
+pub commands-over : (n m : ℕ) → n ≤ 64 → 32 < m → inLimits n m ≡ false
+unfolding inLimits both
+commands-over n m hn h = rw (le-leb n 64 hn, lt-leb m 32 h)
+
+-- ---- the set after a command
+module _ (n m : ℕ) (table : List ℕ) (c w : ℕ) where
+  -- the outcomes that state s adds
+  abbrev pub adds : ℕ → ℕ
+  adds s = pick (member w s) (entry n m table s c) 0
+
+  pub after-out : inLimits n m ≡ false → setOf 0 ≡ setOf (afterIn n m table c w)
+  unfolding afterIn pick
+  after-out e = rw e
+
+  pub after-taken : (s : ℕ) (out : StateSet) → out ≡ setOf (union adds s) → member w s ≡ true
+      → setOf (bitOr (out .mask) (entry n m table s c)) ≡ setOf (union adds (s + 1))
+  unfolding union pick
+  after-taken s out e t = rw (add-one, t, e)
+
+  pub after-left : (s : ℕ) (out : StateSet) → out ≡ setOf (union adds s) → member w s ≡ false → out ≡ setOf (union adds (s + 1))
+  unfolding union pick
+  after-left s out e t = rw (add-one, t) (e ∙ ap setOf (sym (or-zero-r (union adds s))))
+
+  pub after-done : (s : ℕ) (out : StateSet) → n ≤ 64 → m ≤ 32 → s ≡ n → out ≡ setOf (union adds s) → out ≡ setOf (afterIn n m table c w)
+  unfolding afterIn after pick
+  after-done s out hn hm e h = rw (in-limits n m hn hm) (h ∙ ap (λ (k : ℕ). setOf (union adds k)) e)
+
+-- ---- every state can carry the command out
+module _ (n m : ℕ) (table : List ℕ) (c w : ℕ) where
+  -- state s can, if it is in the set
+  abbrev pub can : ℕ → Bool
+  can s = imp (member w s) (not (eqb (entry n m table s c) 0))
+
+  pub able-out : inLimits n m ≡ false → false ≡ ableIn n m table c w
+  unfolding ableIn pick
+  able-out e = rw e
+
+  pub able-left : (s : ℕ) → all can s ≡ true → member w s ≡ false → all can (s + 1) ≡ true
+  unfolding all both imp
+  able-left s e t = rw (add-one, e, t)
+
+  pub able-taken : (s : ℕ) → all can s ≡ true → (entry n m table s c ≡ 0 → ⊥) → all can (s + 1) ≡ true
+  unfolding all both imp
+  able-taken s e f = rw (add-one, e) (go (member w s))
+    where
+      go : (b : Bool) → imp b (not (eqb (entry n m table s c) 0)) ≡ true
+      go true = rw (ne-eqb (entry n m table s c) 0 f)
+      go false = refl
+
+  pub able-done : (s : ℕ) → n ≤ 64 → m ≤ 32 → s ≡ n → all can s ≡ true → true ≡ ableIn n m table c w
+  unfolding ableIn able pick
+  able-done s hn hm e h = rw (in-limits n m hn hm) (sym h ∙ ap (λ (k : ℕ). all can k) e)
+
+  pub able-fails : (s : ℕ) → n ≤ 64 → m ≤ 32 → s < n → member w s ≡ true → entry n m table s c ≡ 0 → false ≡ ableIn n m table c w
+  unfolding ableIn able pick imp
+  able-fails s hn hm hs t e = rw (in-limits n m hn hm) (sym (all-fails can n s hs here))
+    where
+      here : can s ≡ false
+      here = rw (t, e)

@@ -5,7 +5,7 @@ ghost use lib.Dec.{eqb};
 ghost use lib.Bits.{bitAnd, bitOr};
 ghost use Rattle.base.specs.Masks.{member, clearFrom, added};
 ghost use Rattle.reversal.specs.Device.{entry};
-ghost use Rattle.states.specs.StateSets.{setOf, afterIn, ableIn};
+ghost use Rattle.states.specs.StateSets.{setOf, onlyIn, afterIn, beforeIn, ableIn};
 
 // A set of states: state s is in it when bit s of the mask is 1.
 pub struct StateSet {
@@ -37,6 +37,18 @@ impl StateSet {
         ensures { λ r. ⌜ r ≡ eqb (self .mask) 0 ⌝ }
     {
         self.mask == 0
+    }
+
+    // Whether the state is alone in the set; none from 64 on is.
+    pub fn is_only(self, state: u64) -> bool
+        ensures { λ r. ⌜ r ≡ onlyIn (self .mask) state ⌝ }
+    {
+        let mask = self.mask;
+        if state < 64 {
+            mask == 1 << state
+        } else {
+            false
+        }
     }
 
     // Whether no bit at n or above is set.
@@ -90,6 +102,27 @@ impl StateSet {
         for s in 0..n {
             if self.has(s) {
                 out = out.with(entry_at(table, n, m, s, command));
+            }
+        }
+        out
+    }
+
+    // The states of the set from which the command may lead into the target.
+    pub fn before(self, table: &[u64], n: u64, m: u64, command: u64, target: u64) -> Self
+        ensures { λ r. ⌜ r ≡ setOf (beforeIn n m (now (table .entry)) command (self .mask) target) ⌝ }
+    {
+        if 64 < n {
+            return StateSet::of(0);
+        }
+        if 32 < m {
+            return StateSet::of(0);
+        }
+        let mut out = StateSet::of(0);
+        for source in 0..n {
+            if self.has(source) {
+                if entry_at(table, n, m, source, command) & target != 0 {
+                    out = out.add(source);
+                }
             }
         }
         out

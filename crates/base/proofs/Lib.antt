@@ -3,3 +3,4 @@ pub mod Tests
 pub mod Bounded
 pub mod Masks
 pub mod Tables
+pub mod Choices

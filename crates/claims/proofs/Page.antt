@@ -1,0 +1,82 @@
+-- The claims. First the meaning, on values; then the public calls as compiled: what holds after every call, whatever it is passed.
+use mathlib.Core.Path.{_≡_}
+use mathlib.Core.Logic.{_↔_}
+use mathlib.Core.List.{List}
+use Prim.Native.Nat.{ℕ, _+_, _*_, _≤_, _<_, zero-le}
+use lib.Dec.{T}
+use lib.ListN.{getD}
+use Rattle.base.specs.Sets.{In, NoBitFrom}
+use Rattle.base.specs.Lists.{Each}
+use Rattle.reversal.specs.Device.{Device, Proper, tabled}
+use Rattle.reversal.specs.Reversal.{Item, Executable, EndsIn, Accepted, Returns}
+use Rattle.reversal.specs.Runs.{Run, AllowedRun, last, Possible}
+use Rattle.reversal.specs.Chains.{Fits, Chain, plan, Undoes}
+use Rattle.reversal.specs.Answers.{Allowed, Answer, Answers, Numbers}
+use Rattle.reversal.specs.Twelve.{Twelve}
+use Rattle.reversal.specs.Computed.Sets.{accepts}
+use Rattle.reversal.specs.Computed.Beliefs.{belief}
+use Rattle.reversal.specs.Computed.Assembly.{fits, numbers, answer}
+use Rattle.reversal.proofs.Paths.{returns↔}
+use Rattle.reversal.proofs.Reversals.{tabled-proper, accepts↔}
+use Rattle.reversal.proofs.Histories.{possible↔, percept-states}
+use Rattle.reversal.proofs.Fitting.{fits↔}
+use Rattle.reversal.proofs.EndToEnd.{chain-undoes}
+use Rattle.reversal.proofs.Assembling.{numbers-right, answer-right, answers-unique}
+use Rattle.reversal.proofs.Cases.{twelve}
+use Rattle.ridge.proofs.Answers.{looked}
+use Rattle.ridge.proofs.lookup as lookup
+use Rattle.ridge.proofs.lookup.Symbol.{routine as lookup-routine}
+use Rattle.ridge.proofs.lookup.Met.{met as lookup-met}
+use Rattle.claims.specs.Always.{Always}
+use Rattle.claims.specs.Claims.{LookupContract, Lookup}
+use Rattle.claims.proofs.Weaker.{weaker}
+
+-- ---- the meaning
+
+-- 1. an item is accepted by the check on sets exactly when it is a conditional reverse plan by trajectories, for every table without a bit at n or above
+pub acceptance : (n m : ℕ) (table : List ℕ) → ((s c : ℕ) → s < n → c < m → NoBitFrom n (getD table (s * m + c) 0))
+    → (x : Item) → NoBitFrom n (x .psi) → T (accepts (tabled n m table) x) ↔ Accepted (tabled n m table) x
+acceptance n m table fine x psi = accepts↔ (tabled n m table) (tabled-proper n m table fine) x psi
+
+-- 01's sending and 001's executions say the same
+pub sending : (d : Device) (cs : List ℕ) (E S : ℕ) → Returns d E cs S ↔ (Executable d E cs × EndsIn d E cs S)
+sending = returns↔
+
+-- 2. the possible states by one forward and one backward pass are those that some history has
+pub possible : (d : Device) (r : Run) → Proper d → AllowedRun d r → (j s : ℕ) → j ≤ last r → In (belief d r j) s ↔ Possible d r j s
+possible d r proper ok = possible↔ d proper r (percept-states d r ok 0 zero-point)
+  where
+    zero-point : 0 ≤ last r
+    zero-point = search zero-le
+
+-- and the computed fit is the fit by histories
+pub fitting : (d : Device) (r : Run) → Proper d → AllowedRun d r → (x : Item) (j : ℕ) → j ≤ last r → T (fits d r x j) ↔ Fits d r x j
+fitting d r proper ok = fits↔ d proper r ok
+
+-- 3. each of the 33 numbers is the least over all chains from its point, or 65,535 exactly where there is none
+pub fewest : (d : Device) (items : List Item) (r : Run) → Allowed d items r → Numbers d r items (numbers d r items)
+fewest = numbers-right
+
+-- 4. end to end: the plan of every chain that fits the run undoes it, whichever outcomes are taken
+pub end-to-end : (d : Device) (r : Run) (items : List Item) → Each (Accepted d) items → (xs : List ℕ) → Chain d r items (last r) xs
+    → Undoes d r (plan items xs)
+end-to-end = chain-undoes
+
+-- assembling on values answers as 01 says, and 01 leaves no other answer
+pub answering : (d : Device) (items : List Item) (r : Run) → Allowed d items r → Answers d items r (answer d items r)
+answering = answer-right
+
+pub only-answer : (d : Device) (items : List Item) (r : Run) (a b : Answer) → Answers d items r a → Answers d items r b → a ≡ b
+only-answer = answers-unique
+
+-- the twelve cases of 01 on the small device Q
+pub cases : Twelve
+cases = twelve
+
+-- ---- the ridge lookup
+
+pub lookup-contract : Always lookup.ended lookup-routine LookupContract
+lookup-contract M = lookup-met
+
+pub looked-up : Always lookup.ended lookup-routine Lookup
+looked-up = weaker lookup.ended lookup-routine LookupContract Lookup (λ κs a r e. looked (a .0) (a .1 .0) r) lookup-contract

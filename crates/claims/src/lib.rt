@@ -1,0 +1,1 @@
+// The page of claims: types in specs/Claims, proofs in proofs/Page. No code.

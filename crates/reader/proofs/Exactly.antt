@@ -1,0 +1,89 @@
+-- The contract of reading gives what 01 says, of books and records; it answers 0 exactly on well-formed books. Assumes nothing.
+use mathlib.Core.Path.{_≡_, refl, sym, ap, _∙_, subst}
+use mathlib.Core.Logic.{inl, inr, _↔_}
+use mathlib.Core.List.{List}
+use Prim.Native.Nat.{ℕ, _<_}
+use native.Mathlib.Omega.{arith}
+use native.Mathlib.Decide.{decLt}
+use lib.ListN.{length}
+use Rattle.book.specs.Book.{Book, WellFormed}
+use Rattle.book.specs.Lent.{TableRead, SlotsRead}
+use Rattle.book.specs.Parse.{Parsed, parse}
+use Rattle.book.specs.Parse.Parsed.{Ok, Refused}
+use Rattle.book.proofs.Reading.{parse-bytes, parse-fine}
+use Rattle.book.proofs.Refused.{refused-exactly}
+use Rattle.book.proofs.Codes.{refusal-codes}
+use Rattle.book.proofs.Table.{table-read}
+use Rattle.book.proofs.Slots.{slots-read}
+use Rattle.reader.specs.declared.Reading.{Reading}
+use Rattle.reader.specs.Reads.{refusal, done, Short, Long, Reads, short, faulty, fine}
+use Rattle.reader.specs.Contract.{readBy, ReadAs}
+use Rattle.reader.proofs.Answers.{short-table, short-slots, fine-book}
+use Rattle.reader.proofs.Answers as answers
+
+-- which way reading goes
+pub data Way (s t d : List ℕ) : Type 0 where
+  by-short : Short t d → Way s t d
+  by-fault : Long t d → (code place : ℕ) → parse s ≡ Refused code place → Way s t d
+  by-book : Long t d → (b : Book) → parse s ≡ Ok b → Way s t d
+
+pub way : (s t d : List ℕ) → Way s t d
+way s t d = go (decLt (length t) 2048) (decLt (length d) 2176)
+  where
+    by-parse : Long t d → (p : Parsed) → parse s ≡ p → Way s t d
+    by-parse l (Ok b) e = by-book l b e
+    by-parse l (Refused code place) e = by-fault l code place e
+
+    go : Dec (length t < 2048) → Dec (length d < 2176) → Way s t d
+    go (yes h) y = by-short (inl h)
+    go (no h) (yes k) = by-short (inr k)
+    go (no h) (no k) = by-parse (omega arith, omega arith) (parse s) refl
+
+-- what each way gives, for the result and each buffer alike
+module _ {A : Type 0} (s t d : List ℕ) (refuse : ℕ → ℕ → A) (found : Book → A) where
+  pub when-short : Short t d → readBy s t d refuse found ≡ refuse 1 0
+  when-short h = go (decLt (length t) 2048) h
+    where
+      go : Dec (length t < 2048) → Short t d → readBy s t d refuse found ≡ refuse 1 0
+      go (yes l) y = sym (short-table s t d refuse found l)
+      go (no l) (inl y) = absurd (l y)
+      go (no l) (inr y) = sym (short-slots s t d refuse found (omega arith) y)
+
+  pub when-faulty : Long t d → (code place : ℕ) → parse s ≡ Refused code place → readBy s t d refuse found ≡ refuse code place
+  when-faulty l code place e = sym (answers.faulty s t d refuse found (l .0) (l .1) code place e)
+
+  pub when-fine : Long t d → (b : Book) → parse s ≡ Ok b → readBy s t d refuse found ≡ found b
+  when-fine l b e = sym (fine-book s t d refuse found (l .0) (l .1) b e)
+
+module _ {s t d : List ℕ} {r : Reading} {t′ d′ : List ℕ} (c : ReadAs s t d r t′ d′) where
+  pub reads : Reads s t d r t′ d′
+  reads = go (way s t d)
+    where
+      go : Way s t d → Reads s t d r t′ d′
+      go (by-short h) =
+          short h (c .result ∙ when-short s t d refusal done h)
+          (record { table = c .table ∙ when-short s t d _ _ h; slots = c .slots ∙ when-short s t d _ _ h })
+      go (by-fault l code place e) =
+          faulty l code place (refused-exactly s code place (c .bytes) .0 e) (c .result ∙ when-faulty s t d refusal done l code place e)
+          (record { table = c .table ∙ when-faulty s t d _ _ l code place e; slots = c .slots ∙ when-faulty s t d _ _ l code place e })
+      go (by-book l b e) =
+          let (a, same) = parse-fine s b (c .bytes) e in
+          fine l b a same (c .result ∙ when-fine s t d refusal done l b e)
+          (record {
+            table = subst (TableRead b t) (sym (c .table ∙ when-fine s t d _ _ l b e)) (table-read b t a (l .0));
+            slots = subst (SlotsRead b d) (sym (c .slots ∙ when-fine s t d _ _ l b e)) (slots-read b d a (l .1));
+          })
+
+  -- code 0 exactly where the buffers are long enough and the bytes are those of some allowed book
+  pub zero↔ : (r .code ≡ 0) ↔ (Long t d × WellFormed s)
+  zero↔ = (λ e. forth e (way s t d), back)
+    where
+      forth : r .code ≡ 0 → Way s t d → Long t d × WellFormed s
+      forth e (by-short h) = absurd (omega (arith, ap (λ (x : Reading). x .code) (c .result ∙ when-short s t d refusal done h)))
+      forth e (by-fault l code place f) =
+          absurd (omega (arith, ap (λ (x : Reading). x .code) (c .result ∙ when-faulty s t d refusal done l code place f), refusal-codes s code place (refused-exactly s code place (c .bytes) .0 f)))
+      forth e (by-book l b f) = (l, (b, parse-fine s b (c .bytes) f .0, parse-fine s b (c .bytes) f .1))
+
+      back : Long t d × WellFormed s → r .code ≡ 0
+      back (l, (b, a, e)) =
+          ap (λ (x : Reading). x .code) (c .result ∙ when-fine s t d refusal done l b (ap parse (sym e) ∙ parse-bytes b a))

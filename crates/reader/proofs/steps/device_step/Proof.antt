@@ -1,0 +1,46 @@
+-- `device_step` meets its contract: each return is the first test that holds. Assumes nothing.
+use Rattle.base.proofs.Picks.{tests}
+use borrow.Author.Needs.{needs}
+use Rattle.reader.proofs.steps.device_step.Statement.{statement}
+use Rattle.reader.proofs.steps.device_step.Tie as tie
+
+returns : tie.Need-returns
+returns c = (search tests depth 9, search needs)
+
+returns-2 : tie.Need-returns-2
+returns-2 c = (search tests depth 9, search needs)
+
+byte-at-requires : tie.Need-byte-at-requires
+byte-at-requires c κs = search needs
+
+byte-at-requires-2 : tie.Need-byte-at-requires-2
+byte-at-requires-2 c κs = search needs
+
+returns-3 : tie.Need-returns-3
+returns-3 c = (simp (← c .before .before .byte-at .ensures .0, ← c .before .byte-at2 .ensures .0) (search tests depth 9), search needs)
+
+returns-4 : tie.Need-returns-4
+returns-4 c = (simp (← c .before .before .before .byte-at .ensures .0, ← c .before .before .byte-at2 .ensures .0) (search tests depth 9), search needs)
+
+returns-5 : tie.Need-returns-5
+returns-5 c = (simp (← c .before .before .before .before .byte-at .ensures .0, ← c .before .before .before .byte-at2 .ensures .0) (search tests depth 9), search needs)
+
+returns-6 : tie.Need-returns-6
+returns-6 c = (simp (← c .before .before .before .before .before .byte-at .ensures .0, ← c .before .before .before .before .byte-at2 .ensures .0) (search tests depth 9), search needs)
+
+returns-7 : tie.Need-returns-7
+returns-7 c = (simp (← c .before .before .before .before .before .byte-at .ensures .0, ← c .before .before .before .before .byte-at2 .ensures .0) (search tests depth 9), search needs)
+
+pub device-step-spec : {M : Type 1} → statement M
+device-step-spec =
+    tie.close
+    (tie.spec
+    returns
+    returns-2
+    byte-at-requires
+    byte-at-requires-2
+    returns-3
+    returns-4
+    returns-5
+    returns-6
+    returns-7)

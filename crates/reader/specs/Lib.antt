@@ -1,0 +1,5 @@
+pub mod Judged
+pub mod Turns
+pub mod Filling
+pub mod Reads
+pub mod Contract

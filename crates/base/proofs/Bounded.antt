@@ -1,5 +1,5 @@
 -- Laws of the bounded searches: what each finds, and that nothing is missed. Assumes nothing.
-use mathlib.Core.Path.{_≡_, refl, sym, ap, _∙_, subst}
+use mathlib.Core.Path.{_≡_, refl, sym, ap, ap₂, _∙_, subst}
 use mathlib.Core.Bool.{Bool, true, false}
 use mathlib.Core.Logic.{⊎-elim}
 use Prim.Native.Nat.{ℕ, zero, suc, _+_, _≤_, _<_, min}
@@ -73,3 +73,10 @@ seek-low f (suc n) i x l b t = go (f i) refl (seek-low f n (suc i) x)
     go false e ih =
         ⊎-elim (λ (p : i ≡ x). absurd (subst (λ (c : Bool). T c) (ap f (sym p) ∙ e) t)) (λ (p : i < x). ih p (omega arith) t)
         (eq-or-lt-of-le l)
+
+-- tests that agree find the same
+pub seek-same : (f g : ℕ → Bool) (n i : ℕ) → ((x : ℕ) → i ≤ x → x < i + n → f x ≡ g x) → seek f i n ≡ seek g i n
+unfolding seek
+seek-same f g zero i e = refl
+seek-same f g (suc n) i e =
+    ap₂ (λ (b : Bool) (rest : ℕ). pick b i rest) (e i (omega arith) (omega arith)) (seek-same f g n (suc i) (λ x l h. e x (omega arith) (omega arith)))

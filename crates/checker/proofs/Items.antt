@@ -20,6 +20,7 @@ use Rattle.reversal.specs.Computed.Sets.{after, reach, runsBack, ends, startOk,
 use Rattle.states.specs.declared.StateSet.{StateSet}
 use Rattle.states.specs.StateSets.{setOf, afterIn}
 use Rattle.states.proofs.Laws.{after-limits}
+use Rattle.checker.specs.Judged.{sizeFrom}
 
 -- ---- forward commands
 reach-append : (d : Device) (w : ℕ) (cs : List ℕ) (c : ℕ) → reach d w (cs ++ c ∷ []) ≡ after d c (reach d w cs)
@@ -115,3 +116,20 @@ module _ (wrong : ℕ → Bool) (count : ℕ) where
   pub seek-none : (i : ℕ) → i ≡ count → seek wrong i (count - i) ≡ seek wrong 0 count → count ≡ seek wrong 0 count
   unfolding seek
   seek-none i h e = let z : count - i ≡ 0 = omega arith in sym h ∙ (rw z at e)
+
+-- ---- the size of the records from an item on
+module _ (slots : List ℕ) (first count : ℕ) where
+  pub size-next : (i size a b : ℕ) → i < count → size + sizeFrom slots i (count - i) ≡ sizeFrom slots first (count - first) → a ≡ getD slots (34 * i) 0
+      → b ≡ getD slots (34 * i + 1) 0 → size + 22 + a + b + sizeFrom slots (i + 1) (count - (i + 1)) ≡ sizeFrom slots first (count - first)
+  unfolding sizeFrom
+  size-next i size a b l e x y =
+      let s : count - i ≡ suc (count - suc i) = omega arith in
+      let q : size + (22 + getD slots (34 * i) 0 + getD slots (34 * i + 1) 0 + sizeFrom slots (suc i) (count - suc i)) ≡ sizeFrom slots first (count - first) = rw s at e in
+      rw add-one (omega arith)
+
+  pub size-done : (i size : ℕ) → count ≤ i → size + sizeFrom slots i (count - i) ≡ sizeFrom slots first (count - first) → size ≡ sizeFrom slots first (count - first)
+  unfolding sizeFrom
+  size-done i size l e =
+      let z : count - i ≡ 0 = omega arith in
+      let q : size + 0 ≡ sizeFrom slots first (count - first) = rw z at e in
+      omega arith

@@ -1,7 +1,7 @@
 -- The judgement of the items in the slots, computed. Assumes nothing: these are definitions.
 use mathlib.Core.Bool.{not}
 use mathlib.Core.List.{List}
-use Prim.Native.Nat.{ℕ, _+_, _*_, _≤_, _<_}
+use Prim.Native.Nat.{ℕ, zero, suc, _+_, _*_, _≤_, _<_}
 use lib.ListN.{length, getD, drop}
 use Rattle.base.specs.Bounded.{seek}
 use Rattle.reversal.specs.Device.{Device}
@@ -18,3 +18,8 @@ pub record Judgeable (slots : List ℕ) (count : ℕ) : Type 0 where
   pub long : 2176 ≤ length slots
   pub forward : (i : ℕ) → i < count → getD slots (34 * i) 0 ≤ 8
   pub reverse : (i : ℕ) → i < count → getD slots (34 * i + 1) 0 ≤ 8
+
+-- the bytes that the records of the items in count slots from i on take
+unfoldable pub sizeFrom : List ℕ → ℕ → ℕ → ℕ
+sizeFrom slots i zero = 0
+sizeFrom slots i (suc count) = (22 + getD slots (34 * i) 0 + getD slots (34 * i + 1) 0) + sizeFrom slots (suc i) count

@@ -2,10 +2,11 @@
 use reader::Reading;
 use states::StateSet;
 ghost use mathlib.Core.Path.{_≡_};
-ghost use Prim.Native.Nat.{_<_, _≤_};
+ghost use Prim.Native.Nat.{_-_, _<_, _≤_};
 ghost use Rattle.reversal.specs.Device.{tabled};
 ghost use Rattle.reversal.specs.Computed.Sets.{runsBack};
-ghost use Rattle.checker.specs.Judged.{Judgeable, firstWrong};
+ghost use Rattle.checker.specs.Judged.{Judgeable, firstWrong, sizeFrom};
+ghost use Rattle.checker.specs.Contract.{CheckAs};
 
 // A reverse run: no command left and the goal alone in the set, or a next command that every state of the set can carry out, with the
 // rest run from the set after it.
@@ -60,4 +61,39 @@ fn first_wrong(table: &[u64], slots: &[u8], n: u64, m: u64, count: u64) -> u64
         }
     }
     wrong
+}
+
+// The bytes that the records of the items from the first one on take.
+fn size_from(slots: &[u8], first: u64, count: u64) -> u64
+    requires { ⌜ count ≤ 64 ⌝ }
+    ensures { λ r. ⌜ r ≡ sizeFrom (now (slots .entry)) first (count - first) ⌝ }
+{
+    let mut size: u64 = 0;
+    for i in first..count {
+        let at = (34 * i) as usize;
+        size = size + 22 + num::byte_at(slots, at) + num::byte_at(slots, at + 1);
+    }
+    size
+}
+
+// Reads a book, and judges each of its items: code 8 at the place of the first wrong item's record.
+pub fn check(book: &[u8], table: &mut [u64], slots: &mut [u8]) -> Reading
+    ensures { λ r. ⌜ CheckAs (now (book .entry)) (now (table .entry)) (now (slots .entry)) r (now (table .exit)) (now (slots .exit)) ⌝ }
+{
+    let found = reader::read(book, table, slots);
+    if found.code != 0 {
+        return found;
+    }
+    let wrong = first_wrong(table, slots, found.n, found.m, found.items);
+    if wrong < found.items {
+        let size = size_from(slots, wrong, found.items);
+        return Reading {
+            code: 8,
+            place: book.len() as u64 - size,
+            n: 0,
+            m: 0,
+            items: 0,
+        };
+    }
+    found
 }

@@ -6,10 +6,11 @@ use Prim.Native.Nat.{ℕ, _<_}
 use native.Mathlib.Omega.{arith}
 use native.Mathlib.Decide.{decLt}
 use lib.ListN.{length}
-use Rattle.book.specs.Book.{Book, WellFormed}
+use Rattle.book.specs.Book.{Book, AllowedBook, bytesOf, WellFormed}
 use Rattle.book.specs.Lent.{TableRead, SlotsRead}
 use Rattle.book.specs.Parse.{Parsed, parse}
 use Rattle.book.specs.Parse.Parsed.{Ok, Refused}
+use Rattle.book.specs.Buffers.{tableOf, slotsOf}
 use Rattle.book.proofs.Reading.{parse-bytes, parse-fine}
 use Rattle.book.proofs.Refused.{refused-exactly}
 use Rattle.book.proofs.Codes.{refusal-codes}
@@ -55,6 +56,49 @@ module _ {A : Type 0} (s t d : List ℕ) (refuse : ℕ → ℕ → A) (found : B
   pub when-fine : Long t d → (b : Book) → parse s ≡ Ok b → readBy s t d refuse found ≡ found b
   when-fine l b e = sym (fine-book s t d refuse found (l .0) (l .1) b e)
 
+-- ---- for callers that go on with what was read
+
+-- a book was read
+pub record BookRead (s t d : List ℕ) (r : Reading) (t′ d′ : List ℕ) : Type 0 where
+  pub book : Book
+  pub long : Long t d
+  pub parsed : parse s ≡ Ok book
+  pub allowed : AllowedBook book
+  pub bytes : bytesOf book ≡ s
+  pub result : r ≡ done book
+  pub table : t′ ≡ tableOf book t
+  pub slots : d′ ≡ slotsOf book d
+
+module _ {s t d : List ℕ} {r : Reading} {t′ d′ : List ℕ} (c : ReadAs s t d r t′ d′) where
+  pub book-read : r .code ≡ 0 → BookRead s t d r t′ d′
+  book-read e = go (way s t d)
+    where
+      go : Way s t d → BookRead s t d r t′ d′
+      go (by-short h) = absurd (omega (arith, ap (λ (x : Reading). x .code) (c .result ∙ when-short s t d refusal done h)))
+      go (by-fault l code place f) =
+          absurd (omega (arith, ap (λ (x : Reading). x .code) (c .result ∙ when-faulty s t d refusal done l code place f), refusal-codes s code place (refused-exactly s code place (c .bytes) .0 f)))
+      go (by-book l b f) =
+          let (a, same) = parse-fine s b (c .bytes) f in
+          record {
+            book = b;
+            long = l;
+            parsed = f;
+            allowed = a;
+            bytes = same;
+            result = c .result ∙ when-fine s t d refusal done l b f;
+            table = c .table ∙ when-fine s t d (λ code place. t) (λ b. tableOf b t) l b f;
+            slots = c .slots ∙ when-fine s t d (λ code place. d) (λ b. slotsOf b d) l b f;
+          }
+
+  -- where none was, what a caller would have done with it is of no account
+  pub not-read : (r .code ≡ 0 → ⊥) → {A : Type 0} (refuse : ℕ → ℕ → A) (f g : Book → A) → readBy s t d refuse f ≡ readBy s t d refuse g
+  not-read n refuse f g = go (way s t d)
+    where
+      go : Way s t d → readBy s t d refuse f ≡ readBy s t d refuse g
+      go (by-short h) = when-short s t d refuse f h ∙ sym (when-short s t d refuse g h)
+      go (by-fault l code place e) = when-faulty s t d refuse f l code place e ∙ sym (when-faulty s t d refuse g l code place e)
+      go (by-book l b e) = absurd (n (ap (λ (x : Reading). x .code) (c .result ∙ when-fine s t d refusal done l b e)))
+
 module _ {s t d : List ℕ} {r : Reading} {t′ d′ : List ℕ} (c : ReadAs s t d r t′ d′) where
   pub reads : Reads s t d r t′ d′
   reads = go (way s t d)
@@ -76,13 +120,10 @@ module _ {s t d : List ℕ} {r : Reading} {t′ d′ : List ℕ} (c : ReadAs s t
 
   -- code 0 exactly where the buffers are long enough and the bytes are those of some allowed book
   pub zero↔ : (r .code ≡ 0) ↔ (Long t d × WellFormed s)
-  zero↔ = (λ e. forth e (way s t d), back)
+  zero↔ = (forth, back)
     where
-      forth : r .code ≡ 0 → Way s t d → Long t d × WellFormed s
-      forth e (by-short h) = absurd (omega (arith, ap (λ (x : Reading). x .code) (c .result ∙ when-short s t d refusal done h)))
-      forth e (by-fault l code place f) =
-          absurd (omega (arith, ap (λ (x : Reading). x .code) (c .result ∙ when-faulty s t d refusal done l code place f), refusal-codes s code place (refused-exactly s code place (c .bytes) .0 f)))
-      forth e (by-book l b f) = (l, (b, parse-fine s b (c .bytes) f .0, parse-fine s b (c .bytes) f .1))
+      forth : r .code ≡ 0 → Long t d × WellFormed s
+      forth e = let g = book-read c e in (g .long, (g .book, g .allowed, g .bytes))
 
       back : Long t d × WellFormed s → r .code ≡ 0
       back (l, (b, a, e)) =

@@ -1,0 +1,96 @@
+-- A book that was read: its slots can be judged, the judgement is the book's, and the place of an item is counted from the end. Assumes nothing.
+use mathlib.Core.Path.{_≡_, refl, sym, ap, ap₂, _∙_, subst}
+use mathlib.Core.Bool.{Bool, not}
+use mathlib.Core.List.{List, [], _∷_, _++_, map}
+use Prim.Native.Nat.{ℕ, zero, suc, _+_, _-_, _*_, _≤_, _<_}
+use native.Mathlib.Nat.{add-zero}
+use native.Mathlib.Omega.{arith}
+use lib.ListN.{length, getD, take, drop, length-append, take-append-drop, drop-of-length-le}
+use lib.Seq.{drop-cons, getD-drop, length-sets}
+use Rattle.base.specs.Lists.{Each}
+use Rattle.base.specs.Bounded.{seek}
+use Rattle.base.proofs.Lists.{each-at}
+use Rattle.base.proofs.Bounded.{seek-same}
+use Rattle.reversal.specs.Device.{Device, tabled}
+use Rattle.reversal.specs.Reversal.{Item, AllowedItem}
+use Rattle.reversal.specs.Chains.{absent, item}
+use Rattle.reversal.specs.Computed.Sets.{accepts}
+use Rattle.book.specs.Book.{Book, deviceOf, AllowedBook, moveRec, itemRec, frame, framed, bytesOf}
+use Rattle.book.specs.Lent.{slotOf, slotsBytes}
+use Rattle.book.specs.Buffers.{tableOf, slotsOf, itemAt}
+use Rattle.book.proofs.Scanning.{length-frame, framed-append, book-length}
+use Rattle.book.proofs.Bodies.{item-length}
+use Rattle.book.proofs.Slots.{slots-front, length-slots}
+use Rattle.book.proofs.Items.{slot-at, slot-item}
+use Rattle.book.proofs.Device.{tabled-device}
+use Rattle.checker.specs.Judged.{Judgeable, firstWrong, sizeFrom}
+use Rattle.checker.specs.Checks.{placeOf}
+use Rattle.checker.specs.Contract.{wrongItem}
+
+-- the sizes of items' records add up
+sizes : (xs ys : List Item) → length (framed (map itemRec (xs ++ ys))) ≡ length (framed (map itemRec xs)) + length (framed (map itemRec ys))
+sizes [] ys = omega arith
+sizes (x ∷ xs) ys =
+    omega (arith, sizes xs ys, length-append (frame (itemRec x)) (framed (map itemRec (xs ++ ys))), length-append (frame (itemRec x)) (framed (map itemRec xs)))
+
+module _ (b : Book) (d : List ℕ) (a : AllowedBook b) (long : 2176 ≤ length d) where
+  -- slot i begins with the slot of item i
+  slot-of : (i : ℕ) → i < length (b .items) → (v : List ℕ) × (drop (34 * i) (slotsOf b d) ≡ slotOf (item (b .items) i) ++ v)
+  slot-of i l =
+      let (v, e) = slot-at (deviceOf b) (b .items) (drop (length (slotsBytes (b .items))) d) (a .each-item) i l in
+      (v, ap (drop (34 * i)) (slots-front b d a long) ∙ e)
+
+  allowed-item : (i : ℕ) → i < length (b .items) → AllowedItem (deviceOf b) (item (b .items) i)
+  allowed-item i l = each-at (AllowedItem (deviceOf b)) (b .items) (a .each-item) i absent l
+
+  pub item-is : (i : ℕ) → i < length (b .items) → itemAt (drop (34 * i) (slotsOf b d)) ≡ item (b .items) i
+  item-is i l =
+      let (v, e) = slot-of i l in
+      ap itemAt e ∙ slot-item (deviceOf b) (a .device .n-high) (item (b .items) i) v (allowed-item i l)
+
+  forward-count : (i : ℕ) → i < length (b .items) → getD (slotsOf b d) (34 * i) 0 ≡ length (item (b .items) i .forward)
+  forward-count i l =
+      let (v, e) = slot-of i l in
+      ap (λ (k : ℕ). getD (slotsOf b d) k 0) (sym (add-zero (34 * i))) ∙ sym (getD-drop (34 * i) (slotsOf b d) 0 0) ∙ ap (λ (t : List ℕ). getD t 0 0) e
+
+  reverse-count : (i : ℕ) → i < length (b .items) → getD (slotsOf b d) (34 * i + 1) 0 ≡ length (item (b .items) i .reverse)
+  reverse-count i l =
+      let (v, e) = slot-of i l in
+      sym (getD-drop (34 * i) (slotsOf b d) 1 0) ∙ ap (λ (t : List ℕ). getD t 1 0) e
+
+  pub judgeable : Judgeable (slotsOf b d) (length (b .items))
+  judgeable =
+      record {
+        few = a .few;
+        long = omega (arith, length-sets d 0 (slotsBytes (b .items)));
+        forward = λ i l. omega (arith, forward-count i l, allowed-item i l .most);
+        reverse = λ i l. omega (arith, reverse-count i l, allowed-item i l .reverse-most);
+      }
+
+  pub wrong-is : (t : List ℕ) → 2048 ≤ length t → firstWrong (tabled (b .n) (b .m) (tableOf b t)) (slotsOf b d) (length (b .items)) ≡ wrongItem b
+  unfolding firstWrong wrongItem
+  wrong-is t l =
+      ap (λ (x : Device). seek (λ i. not (accepts x (itemAt (drop (34 * i) (slotsOf b d))))) 0 (length (b .items))) (tabled-device b t a l)
+      ∙ seek-same (λ i. not (accepts (deviceOf b) (itemAt (drop (34 * i) (slotsOf b d))))) (λ i. not (accepts (deviceOf b) (item (b .items) i))) (length (b .items)) 0
+      (λ i l h. ap (λ (x : Item). not (accepts (deviceOf b) x)) (item-is i (omega arith)))
+
+  -- ---- the place of an item
+  size-is : (c i : ℕ) → i + c ≡ length (b .items) → sizeFrom (slotsOf b d) i c ≡ length (framed (map itemRec (drop i (b .items))))
+  unfolding sizeFrom
+  size-is zero i e = rw (drop-of-length-le (b .items) past)
+    where
+      past : length (b .items) ≤ i
+      past = omega arith
+  size-is (suc c) i e =
+      let l : i < length (b .items) = omega arith in
+      let x = item (b .items) i in
+      rw (drop-cons (b .items) i absent l)
+      (omega (arith, size-is c (suc i) (omega arith), forward-count i l, reverse-count i l, length-append (frame (itemRec x)) (framed (map itemRec (drop (suc i) (b .items)))),
+      length-frame (itemRec x), item-length x))
+
+  pub place-is : (i : ℕ) → i ≤ length (b .items) → placeOf b i + sizeFrom (slotsOf b d) i (length (b .items) - i) ≡ length (bytesOf b)
+  place-is i l =
+      let xs = b .items in
+      let before : Book = record { n = b .n; m = b .m; moves = b .moves; items = take i xs } in
+      let whole = ap (λ (ys : List Item). length (framed (map itemRec ys))) (sym (take-append-drop i xs)) in
+      omega (arith, book-length b, book-length before, whole, sizes (take i xs) (drop i xs), size-is (length xs - i) i (omega arith))

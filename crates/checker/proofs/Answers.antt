@@ -4,19 +4,15 @@ use mathlib.Core.List.{List}
 use Prim.Native.Nat.{ℕ, _+_, _-_, _≤_, _<_}
 use native.Mathlib.Omega.{arith}
 use lib.ListN.{length}
-use Rattle.base.specs.Tests.{pick}
-use Rattle.base.specs.Compare.{less}
 use Rattle.base.proofs.Picks.{less-yes, less-no}
 use Rattle.reversal.specs.Device.{tabled}
-use Rattle.book.specs.Book.{Book, bytesOf}
-use Rattle.book.specs.Buffers.{tableOf, slotsOf}
 use Rattle.reader.specs.declared.Reading.{Reading}
 use Rattle.reader.specs.Reads.{refusal, done}
-use Rattle.reader.specs.Contract.{readBy, ReadAs}
+use Rattle.reader.specs.Contract.{ReadAs}
 use Rattle.reader.proofs.Exactly.{BookRead, book-read, not-read, when-fine}
 use Rattle.checker.specs.Judged.{Judgeable, firstWrong, sizeFrom}
 use Rattle.checker.specs.Checks.{placeOf}
-use Rattle.checker.specs.Contract.{wrongItem, checkBy, CheckAs}
+use Rattle.checker.specs.Contract.{wrongItem, judgedBy, checkBy, CheckAs}
 use Rattle.checker.proofs.Found.{judgeable, wrong-is, place-is}
 
 module _ {s t d : List ℕ} {r : Reading} {t′ d′ : List ℕ} (c : ReadAs s t d r t′ d′) where
@@ -26,7 +22,7 @@ module _ {s t d : List ℕ} {r : Reading} {t′ d′ : List ℕ} (c : ReadAs s t
   passed-on n =
       record {
         bytes = c .bytes;
-        result = c .result ∙ not-read c n refusal done (λ b. pick (less (wrongItem b) (length (b .items))) (refusal 8 (placeOf b (wrongItem b))) (done b));
+        result = c .result ∙ not-read c n refusal done (judgedBy refusal done);
         table = c .table;
         slots = c .slots;
       }
@@ -40,10 +36,11 @@ module _ {s t d : List ℕ} {r : Reading} {t′ d′ : List ℕ} (c : ReadAs s t
 
     -- what the judgement asks, and what it finds
     pub asked : (r .n ≤ 64) × (r .m ≤ 32) × Judgeable d′ (r .items)
-    asked =
-        (omega (arith, ap (λ (x : Reading). x .n) (g .result), g .allowed .device .n-high),
-        omega (arith, ap (λ (x : Reading). x .m) (g .result), g .allowed .device .m-high),
-        subst₂ Judgeable (sym (g .slots)) (sym count) (judgeable (g .book) d (g .allowed) (g .long .1)))
+    asked = (
+      omega (arith, ap (λ (x : Reading). x .n) (g .result), g .allowed .device .n-high),
+      omega (arith, ap (λ (x : Reading). x .m) (g .result), g .allowed .device .m-high),
+      subst₂ Judgeable (sym (g .slots)) (sym count) (judgeable (g .book) d (g .allowed) (g .long .1)),
+    )
 
     judged : (w : ℕ) → w ≡ firstWrong (tabled (r .n) (r .m) t′) d′ (r .items) → w ≡ wrongItem (g .book)
     judged w h =
@@ -52,15 +49,11 @@ module _ {s t d : List ℕ} {r : Reading} {t′ d′ : List ℕ} (c : ReadAs s t
         ∙ ap₂ (λ (y z : List ℕ). firstWrong (tabled (g .book .n) (g .book .m) y) z (length (g .book .items))) (g .table) (g .slots)
         ∙ wrong-is (g .book) d (g .allowed) (g .long .1) t (g .long .0)
 
-    answer : Book → Reading
-    answer b = pick (less (wrongItem b) (length (b .items))) (refusal 8 (placeOf b (wrongItem b))) (done b)
-
-    whole : checkBy s t d refusal done ≡ answer (g .book)
-    unfolding checkBy answer
-    whole = when-fine s t d refusal answer (g .long) (g .book) (g .parsed)
+    whole : checkBy s t d refusal done ≡ judgedBy refusal done (g .book)
+    unfolding checkBy
+    whole = when-fine s t d refusal (judgedBy refusal done) (g .long) (g .book) (g .parsed)
 
     pub no-wrong : (w : ℕ) → w ≡ firstWrong (tabled (r .n) (r .m) t′) d′ (r .items) → r .items ≤ w → CheckAs s t d r t′ d′
-    unfolding answer
     no-wrong w h l =
         record {
           bytes = c .bytes;
@@ -84,7 +77,6 @@ module _ {s t d : List ℕ} {r : Reading} {t′ d′ : List ℕ} (c : ReadAs s t
 
     pub one-wrong : (w size : ℕ) → w ≡ firstWrong (tabled (r .n) (r .m) t′) d′ (r .items) → w < r .items → size ≡ sizeFrom d′ w (r .items - w)
         → CheckAs s t d (refusal 8 (length s - size)) t′ d′
-    unfolding answer
     one-wrong w size h l q =
         record {
           bytes = c .bytes;

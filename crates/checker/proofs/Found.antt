@@ -1,13 +1,12 @@
 -- A book that was read: its slots can be judged, the judgement is the book's, and the place of an item is counted from the end. Assumes nothing.
-use mathlib.Core.Path.{_≡_, refl, sym, ap, ap₂, _∙_, subst}
-use mathlib.Core.Bool.{Bool, not}
+use mathlib.Core.Path.{_≡_, sym, ap, _∙_}
+use mathlib.Core.Bool.{not}
 use mathlib.Core.List.{List, [], _∷_, _++_, map}
 use Prim.Native.Nat.{ℕ, zero, suc, _+_, _-_, _*_, _≤_, _<_}
 use native.Mathlib.Nat.{add-zero}
 use native.Mathlib.Omega.{arith}
 use lib.ListN.{length, getD, take, drop, length-append, take-append-drop, drop-of-length-le}
 use lib.Seq.{drop-cons, getD-drop, length-sets}
-use Rattle.base.specs.Lists.{Each}
 use Rattle.base.specs.Bounded.{seek}
 use Rattle.base.proofs.Lists.{each-at}
 use Rattle.base.proofs.Bounded.{seek-same}
@@ -15,12 +14,12 @@ use Rattle.reversal.specs.Device.{Device, tabled}
 use Rattle.reversal.specs.Reversal.{Item, AllowedItem}
 use Rattle.reversal.specs.Chains.{absent, item}
 use Rattle.reversal.specs.Computed.Sets.{accepts}
-use Rattle.book.specs.Book.{Book, deviceOf, AllowedBook, moveRec, itemRec, frame, framed, bytesOf}
+use Rattle.book.specs.Book.{Book, deviceOf, AllowedBook, itemRec, frame, framed, bytesOf}
 use Rattle.book.specs.Lent.{slotOf, slotsBytes}
 use Rattle.book.specs.Buffers.{tableOf, slotsOf, itemAt}
-use Rattle.book.proofs.Scanning.{length-frame, framed-append, book-length}
+use Rattle.book.proofs.Scanning.{length-frame, book-length}
 use Rattle.book.proofs.Bodies.{item-length}
-use Rattle.book.proofs.Slots.{slots-front, length-slots}
+use Rattle.book.proofs.Slots.{slots-front}
 use Rattle.book.proofs.Items.{slot-at, slot-item}
 use Rattle.book.proofs.Device.{tabled-device}
 use Rattle.checker.specs.Judged.{Judgeable, firstWrong, sizeFrom}
@@ -85,8 +84,15 @@ module _ (b : Book) (d : List ℕ) (a : AllowedBook b) (long : 2176 ≤ length d
       let l : i < length (b .items) = omega arith in
       let x = item (b .items) i in
       rw (drop-cons (b .items) i absent l)
-      (omega (arith, size-is c (suc i) (omega arith), forward-count i l, reverse-count i l, length-append (frame (itemRec x)) (framed (map itemRec (drop (suc i) (b .items)))),
-      length-frame (itemRec x), item-length x))
+      (omega (
+        arith,
+        size-is c (suc i) (omega arith),
+        forward-count i l,
+        reverse-count i l,
+        length-append (frame (itemRec x)) (framed (map itemRec (drop (suc i) (b .items)))),
+        length-frame (itemRec x),
+        item-length x,
+      ))
 
   pub place-is : (i : ℕ) → i ≤ length (b .items) → placeOf b i + sizeFrom (slotsOf b d) i (length (b .items) - i) ≡ length (bytesOf b)
   place-is i l =

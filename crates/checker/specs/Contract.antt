@@ -21,10 +21,13 @@ use Rattle.checker.specs.Checks.{placeOf}
 unfoldable pub wrongItem : Book → ℕ
 wrongItem b = seek (λ i. not (accepts (deviceOf b) (item (b .items) i))) 0 (length (b .items))
 
+-- of a book that was read: code 8 at its first wrong item, else `fine`
+abbrev pub judgedBy : {A : Type 0} → (ℕ → ℕ → A) → (Book → A) → Book → A
+judgedBy refuse fine b = pick (less (wrongItem b) (length (b .items))) (refuse 8 (placeOf b (wrongItem b))) (fine b)
+
 -- `refuse` with the first code and its place, `fine` with an accepted book
 unfoldable pub checkBy : {A : Type 0} → List ℕ → List ℕ → List ℕ → (ℕ → ℕ → A) → (Book → A) → A
-checkBy s t d refuse fine =
-    readBy s t d refuse (λ b. pick (less (wrongItem b) (length (b .items))) (refuse 8 (placeOf b (wrongItem b))) (fine b))
+checkBy s t d refuse fine = readBy s t d refuse (judgedBy refuse fine)
 
 -- the contract of `check`; the table and the slots are filled as by reading
 pub record CheckAs (s t d : List ℕ) (r : Reading) (t′ d′ : List ℕ) : Type 0 where

@@ -10,14 +10,7 @@ ghost use Rattle.checker.specs.Contract.{CheckAs};
 
 // A reverse run: no command left and the goal alone in the set, or a next command that every state of the set can carry out, with the
 // rest run from the set after it.
-fn runs_back(
-    set: StateSet,
-    table: &[u64],
-    n: u64,
-    m: u64,
-    commands: &[u8],
-    goal: u64,
-) -> bool
+fn runs_back(set: StateSet, table: &[u64], n: u64, m: u64, commands: &[u8], goal: u64) -> bool
     requires { ⌜ (n ≤ 64) × (m ≤ 32) × (goal < 64) ⌝ }
     ensures { λ r. ⌜ r ≡ runsBack (tabled n m (now (table .entry))) (set .mask) (now (commands .entry)) goal ⌝ }
 {
@@ -28,7 +21,14 @@ fn runs_back(
     if !set.able(table, n, m, command) {
         return false;
     }
-    runs_back(set.after(table, n, m, command), table, n, m, &commands[1..], goal)
+    runs_back(
+        set.after(table, n, m, command),
+        table,
+        n,
+        m,
+        &commands[1..],
+        goal,
+    )
 }
 
 // The first of the items in the slots that is not accepted, or their number. For each start in psi, the ends in phi are run back

@@ -9,7 +9,7 @@ use Rattle.reversal.specs.Computed.Sets.{runsBack}
 use Rattle.states.specs.declared.StateSet.{StateSet}
 use Rattle.states.specs.StateSets.{afterIn, ableIn}
 use Rattle.checker.proofs.Laws.{back-none, back-fails, back-more}
-use Prim.Native.Nat.{ℕ, _-_, _<_}
+use Prim.Native.Nat.{ℕ, _-_}
 use borrow.Fn.Kinds.{In}
 use borrow.Fn.PlainCycle.{Measures, is, falls, and}
 use Rattle.checker.proofs.runs_back.Reads as runs-back
@@ -39,7 +39,7 @@ runs-back-is-only-requires : (t : ℕ) → runs-back-lts.Need-is-only-requires (
 runs-back-is-only-requires t c κs = search needs
 
 runs-back-returns : (t : ℕ) → runs-back-lts.Need-returns (runs-back-told t) (runs-back-at t) runs-back.Post
-runs-back-returns t c = 
+runs-back-returns t c =
     let a = c .before .before .before .before .args in
     c .is-only .ensures
     ∙ back-none (a .n) (a .m) (a .table .now) (a .goal) (omega arith) (omega arith) (a .commands .now) (a .set .mask) (omega arith) (c .before .if1 .taken)
@@ -51,7 +51,7 @@ runs-back-able-requires : (t : ℕ) → runs-back-lts.Need-able-requires (runs-b
 runs-back-able-requires t c κs = search needs
 
 runs-back-returns-2 : (t : ℕ) → runs-back-lts.Need-returns-2 (runs-back-told t) (runs-back-at t) runs-back.Post
-runs-back-returns-2 t c = 
+runs-back-returns-2 t c =
     let a = c .before .before .before .before .before .before .args in
     back-fails (a .n) (a .m) (a .table .now) (a .goal) (omega arith) (omega arith) (a .commands .now) (a .set .mask) (c .before .before .before .if1 .left)
     (ap (λ (x : ℕ). ableIn (a .n) (a .m) (a .table .now) x (a .set .mask)) (sym (c .before .before .byte-at .ensures .0))
@@ -73,7 +73,7 @@ runs-back-runs-back-requires : (t : ℕ) → runs-back-lts.Need-runs-back-requir
 runs-back-runs-back-requires t c κs = (simp (length-take, length-drop) (omega arith), omega arith)
 
 runs-back-returns-3 : (t : ℕ) → runs-back-lts.Need-returns-3 (runs-back-told t) (runs-back-at t) runs-back.Post
-runs-back-returns-3 t c = 
+runs-back-returns-3 t c =
     let a = c .before .before .before .before .before .before .before .before .before .args in
     let read = c .before .before .before .before .before .byte-at .ensures .0 in
     c .runs-back .ensures

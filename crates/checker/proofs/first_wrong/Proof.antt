@@ -100,16 +100,18 @@ add-requires : tie.Need-add-requires Inv-loop2 μ-loop2 Inv-loop μ-loop Inv-ite
 add-requires c κs = search needs
 
 loop2-holds : tie.Need-loop2-holds Inv-loop2 μ-loop2 Inv-loop μ-loop Inv-items μ-items
-loop2-holds c = 
+loop2-holds c =
     let a = c .before .before .before .before .before .before .before .before .before .before .before .before .before .before .before .args in
     let ok = c .before .before .before .before .before .before .before .before .before .before .before .before .before .before .before .pre .2 in
     let i = c .before .before .before .before .before .before .before .before .before .before .before .before .items .i in
-    let below : i < a .count = omega arith in
-    (reach-start (a .n) (a .m) (a .table .now) (c .before .before .before .before .before .before .loop .start) ((itemIn (a .slots .now) i) .forward) _ (omega arith)
-    (c .add .ensures ∙ ap (λ (x : StateSet). setOf (added (x .mask) (c .before .before .before .before .before .before .loop .start))) (c .before .of2 .ensures)), omega arith)
+    let below : i < a .count = omega arith in (
+      reach-start (a .n) (a .m) (a .table .now) (c .before .before .before .before .before .before .loop .start) ((itemIn (a .slots .now) i) .forward) _ (omega arith)
+          (c .add .ensures ∙ ap (λ (x : StateSet). setOf (added (x .mask) (c .before .before .before .before .before .before .loop .start))) (c .before .of2 .ensures)),
+      omega arith,
+    )
 
 add-byte-at-2 : tie.Need-add-byte-at-2 Inv-loop2 μ-loop2 Inv-loop μ-loop Inv-items μ-items
-add-byte-at-2 c = 
+add-byte-at-2 c =
     let a = c .before .before .before .before .before .before .before .before .before .before .before .before .before .before .before .before .before .args in
     let ok = c .before .before .before .before .before .before .before .before .before .before .before .before .before .before .before .before .before .pre .2 in
     let i = c .before .before .before .before .before .before .before .before .before .before .before .before .before .before .items .i in
@@ -117,7 +119,7 @@ add-byte-at-2 c =
     omega (arith, ok .few, ok .forward i below, c .before .before .before .before .before .before .before .before .before .before .before .before .byte-at .ensures .0)
 
 add-byte-at-3 : tie.Need-add-byte-at-3 Inv-loop2 μ-loop2 Inv-loop μ-loop Inv-items μ-items
-add-byte-at-3 c = 
+add-byte-at-3 c =
     let a = c .before .before .before .before .before .before .before .before .before .before .before .before .before .before .before .before .before .args in
     let ok = c .before .before .before .before .before .before .before .before .before .before .before .before .before .before .before .before .before .pre .2 in
     let i = c .before .before .before .before .before .before .before .before .before .before .before .before .before .before .items .i in
@@ -132,7 +134,7 @@ after-requires : tie.Need-after-requires Inv-loop2 μ-loop2 Inv-loop μ-loop Inv
 after-requires c κs = search needs
 
 add-j : tie.Need-add-j Inv-loop2 μ-loop2 Inv-loop μ-loop Inv-items μ-items
-add-j c = 
+add-j c =
     let a = c .before .before .before .before .before .before .before .before .before .before .before .before .before .before .before .before .before .before .before .args in
     let ok = c .before .before .before .before .before .before .before .before .before .before .before .before .before .before .before .before .before .before .before .pre .2 in
     let i = c .before .before .before .before .before .before .before .before .before .before .before .before .before .before .before .before .items .i in
@@ -143,16 +145,18 @@ loop2-less : tie.Need-loop2-less Inv-loop2 μ-loop2 Inv-loop μ-loop Inv-items �
 loop2-less c = omega arith
 
 loop2-again : tie.Need-loop2-again Inv-loop2 μ-loop2 Inv-loop μ-loop Inv-items μ-items
-loop2-again c = 
+loop2-again c =
     let a = c .before .before .before .before .before .before .before .before .before .before .before .before .before .before .before .before .before .before .before .args in
     let ok = c .before .before .before .before .before .before .before .before .before .before .before .before .before .before .before .before .before .before .before .pre .2 in
     let i = c .before .before .before .before .before .before .before .before .before .before .before .before .before .before .before .before .items .i in
     let below : i < a .count = omega arith in
     let j = c .before .before .before .loop2 .j in
-    let small : j < getD (a .slots .now) (34 * i) 0 = omega (arith, c .before .before .before .before .before .before .before .before .before .before .before .before .before .before .byte-at .ensures .0) in
-    (reach-next (a .n) (a .m) (a .table .now) (c .before .before .before .before .before .before .before .before .before .before .loop .start) ((itemIn (a .slots .now) i) .forward) (c .before .before .before .loop2 .set) _ j _ (c .before .before .before .before .before .before .before .before .before .before .before .before .before .before .before .before .before .before .before .pre .0) (c .before .before .before .before .before .before .before .before .before .before .before .before .before .before .before .before .before .before .before .pre .1)
-    (omega (arith, forward-length (a .slots .now) i ok below)) (c .before .before .before .loop2 .inv .0)
-    (c .before .byte-at3 .ensures .0 ∙ forward-at (a .slots .now) i ok below j small) (c .after .ensures), omega arith)
+    let small : j < getD (a .slots .now) (34 * i) 0 = omega (arith, c .before .before .before .before .before .before .before .before .before .before .before .before .before .before .byte-at .ensures .0) in (
+      reach-next (a .n) (a .m) (a .table .now) (c .before .before .before .before .before .before .before .before .before .before .loop .start) ((itemIn (a .slots .now) i) .forward) (c .before .before .before .loop2 .set) _ j _ (c .before .before .before .before .before .before .before .before .before .before .before .before .before .before .before .before .before .before .before .pre .0) (c .before .before .before .before .before .before .before .before .before .before .before .before .before .before .before .before .before .before .before .pre .1)
+          (omega (arith, forward-length (a .slots .now) i ok below)) (c .before .before .before .loop2 .inv .0)
+          (c .before .byte-at3 .ensures .0 ∙ forward-at (a .slots .now) i ok below j small) (c .after .ensures),
+      omega arith,
+    )
 
 within-requires : tie.Need-within-requires Inv-loop2 μ-loop2 Inv-loop μ-loop Inv-items μ-items
 within-requires c κs = search needs
@@ -161,7 +165,7 @@ is-empty-requires : tie.Need-is-empty-requires Inv-loop2 μ-loop2 Inv-loop μ-lo
 is-empty-requires c κs = search needs
 
 add-runs-back : tie.Need-add-runs-back Inv-loop2 μ-loop2 Inv-loop μ-loop Inv-items μ-items
-add-runs-back c = 
+add-runs-back c =
     let a = c .before .before .before .before .before .before .before .before .before .before .before .before .before .before .before .before .before .before .before .before .args in
     let ok = c .before .before .before .before .before .before .before .before .before .before .before .before .before .before .before .before .before .before .before .before .pre .2 in
     let i = c .before .before .before .before .before .before .before .before .before .before .before .before .before .before .before .before .before .items .i in
@@ -169,7 +173,7 @@ add-runs-back c =
     omega (arith, ok .few, ok .long, ok .reverse i below, c .before .before .before .before .before .before .before .before .before .before .before .before .before .before .byte-at2 .ensures .0)
 
 add-runs-back-2 : tie.Need-add-runs-back-2 Inv-loop2 μ-loop2 Inv-loop μ-loop Inv-items μ-items
-add-runs-back-2 c = 
+add-runs-back-2 c =
     let a = c .before .before .before .before .before .before .before .before .before .before .before .before .before .before .before .before .before .before .before .before .args in
     let ok = c .before .before .before .before .before .before .before .before .before .before .before .before .before .before .before .before .before .before .before .before .pre .2 in
     let i = c .before .before .before .before .before .before .before .before .before .before .before .before .before .before .before .before .before .items .i in
@@ -177,7 +181,7 @@ add-runs-back-2 c =
     omega (arith, ok .few, ok .long, ok .reverse i below, c .before .before .before .before .before .before .before .before .before .before .before .before .before .before .byte-at2 .ensures .0)
 
 add-runs-back-3 : tie.Need-add-runs-back-3 Inv-loop2 μ-loop2 Inv-loop μ-loop Inv-items μ-items
-add-runs-back-3 c = 
+add-runs-back-3 c =
     let a = c .before .before .before .before .before .before .before .before .before .before .before .before .before .before .before .before .before .before .before .before .args in
     let ok = c .before .before .before .before .before .before .before .before .before .before .before .before .before .before .before .before .before .before .before .before .pre .2 in
     let i = c .before .before .before .before .before .before .before .before .before .before .before .before .before .before .before .before .before .items .i in
@@ -185,7 +189,7 @@ add-runs-back-3 c =
     omega (arith, ok .few, ok .long, ok .reverse i below, c .before .before .before .before .before .before .before .before .before .before .before .before .before .before .byte-at2 .ensures .0)
 
 sub-runs-back : tie.Need-sub-runs-back Inv-loop2 μ-loop2 Inv-loop μ-loop Inv-items μ-items
-sub-runs-back c = 
+sub-runs-back c =
     let a = c .before .before .before .before .before .before .before .before .before .before .before .before .before .before .before .before .before .before .before .before .args in
     let ok = c .before .before .before .before .before .before .before .before .before .before .before .before .before .before .before .before .before .before .before .before .pre .2 in
     let i = c .before .before .before .before .before .before .before .before .before .before .before .before .before .before .before .before .before .items .i in
@@ -194,7 +198,7 @@ sub-runs-back c =
 
 part-runs-back-start :
     tie.Need-part-runs-back-start Inv-loop2 μ-loop2 Inv-loop μ-loop Inv-items μ-items
-part-runs-back-start c = 
+part-runs-back-start c =
     let a = c .before .before .before .before .before .before .before .before .before .before .before .before .before .before .before .before .before .before .before .before .args in
     let ok = c .before .before .before .before .before .before .before .before .before .before .before .before .before .before .before .before .before .before .before .before .pre .2 in
     let i = c .before .before .before .before .before .before .before .before .before .before .before .before .before .before .before .before .before .items .i in
@@ -203,7 +207,7 @@ part-runs-back-start c =
 
 part-runs-back-end :
     tie.Need-part-runs-back-end Inv-loop2 μ-loop2 Inv-loop μ-loop Inv-items μ-items
-part-runs-back-end c = 
+part-runs-back-end c =
     let a = c .before .before .before .before .before .before .before .before .before .before .before .before .before .before .before .before .before .before .before .before .args in
     let ok = c .before .before .before .before .before .before .before .before .before .before .before .before .before .before .before .before .before .before .before .before .pre .2 in
     let i = c .before .before .before .before .before .before .before .before .before .before .before .before .before .before .before .before .before .items .i in
@@ -221,7 +225,7 @@ loop-less : tie.Need-loop-less Inv-loop2 μ-loop2 Inv-loop μ-loop Inv-items μ-
 loop-less c = omega arith
 
 loop-again : tie.Need-loop-again Inv-loop2 μ-loop2 Inv-loop μ-loop Inv-items μ-items
-loop-again c = 
+loop-again c =
     let a = c .before .before .before .before .before .before .before .before .before .before .before .before .before .args in
     let ok = c .before .before .before .before .before .before .before .before .before .before .before .before .before .pre .2 in
     let i = c .before .before .before .before .before .before .before .before .before .before .items .i in
@@ -232,18 +236,18 @@ loop-again c =
       ⊎-elim
           (λ w.
           let whole =
-                reach-all (a .n) (a .m) (a .table .now) S ((itemIn (a .slots .now) i) .forward) ((itemIn (a .slots .now) i) .phi) (w .3 .set) _ (w .3 .j) _
-                (omega (arith, forward-length (a .slots .now) i ok below, c .before .before .before .before .before .before .before .before .byte-at .ensures .0)) (w .3 .inv .0)
-                (c .before .before .before .before .before .before .u64-at .ensures ∙ phi-is (a .slots .now) i) (w .5 .ensures) in
+          reach-all (a .n) (a .m) (a .table .now) S ((itemIn (a .slots .now) i) .forward) ((itemIn (a .slots .now) i) .phi) (w .3 .set) _ (w .3 .j) _
+          (omega (arith, forward-length (a .slots .now) i ok below, c .before .before .before .before .before .before .before .before .byte-at .ensures .0)) (w .3 .inv .0)
+          (c .before .before .before .before .before .before .u64-at .ensures ∙ phi-is (a .slots .now) i) (w .5 .ensures) in
           start-back (tabled (a .n) (a .m) (a .table .now)) (itemIn (a .slots .now) i) S (w .5 .result .mask) whole passed
           (sym (w .9 .ensures ∙ ap (λ (r : List ℕ). runsBack (tabled (a .n) (a .m) (a .table .now)) (w .5 .result .mask) r S) (reverse-is (a .slots .now) i ok below _ (c .before .before .before .before .before .before .before .byte-at2 .ensures .0)))
           ∙ not-false _ (w .10 .left)))
           (⊎-elim
           (λ w.
           let whole =
-                reach-all (a .n) (a .m) (a .table .now) S ((itemIn (a .slots .now) i) .forward) ((itemIn (a .slots .now) i) .phi) (w .3 .set) _ (w .3 .j) _
-                (omega (arith, forward-length (a .slots .now) i ok below, c .before .before .before .before .before .before .before .before .byte-at .ensures .0)) (w .3 .inv .0)
-                (c .before .before .before .before .before .before .u64-at .ensures ∙ phi-is (a .slots .now) i) (w .5 .ensures) in
+          reach-all (a .n) (a .m) (a .table .now) S ((itemIn (a .slots .now) i) .forward) ((itemIn (a .slots .now) i) .phi) (w .3 .set) _ (w .3 .j) _
+          (omega (arith, forward-length (a .slots .now) i ok below, c .before .before .before .before .before .before .before .before .byte-at .ensures .0)) (w .3 .inv .0)
+          (c .before .before .before .before .before .before .u64-at .ensures ∙ phi-is (a .slots .now) i) (w .5 .ensures) in
           start-none (tabled (a .n) (a .m) (a .table .now)) (itemIn (a .slots .now) i) S (w .5 .result .mask) whole passed (sym (w .6 .ensures) ∙ not-false _ (w .7 .left)))
           (λ w. start-out (tabled (a .n) (a .m) (a .table .now)) (itemIn (a .slots .now) i) S passed (sym (c .before .has .ensures ∙ ap (λ (x : StateSet). member (x .mask) (c .before .before .before .before .loop .start)) (c .before .before .of .ensures) ∙ ap (λ (x : ℕ). member x (c .before .before .before .before .loop .start)) (c .before .before .before .before .before .u64-at2 .ensures ∙ psi-is (a .slots .now) i)) ∙ w .left)))
           (c .if1 .came),
@@ -258,32 +262,35 @@ items-less c = omega arith
 
 items-again : tie.Need-items-again Inv-loop2 μ-loop2 Inv-loop μ-loop Inv-items μ-items
 unfolding firstWrong
-items-again c = 
+items-again c =
     let a = c .before .before .before .before .before .before .before .before .before .before .args in
     let ok = c .before .before .before .before .before .before .before .before .before .before .pre .2 in
     let i = c .before .before .before .before .before .before .before .items .i in
-    let below : i < a .count = omega arith in
-    (c .before .loop .inv .0, seek-next (wrongAt (tabled (a .n) (a .m) (a .table .now)) (a .slots .now)) (a .count) i below (c .before .before .before .before .before .before .before .items .inv .1)
-    (ap not (starts-done (tabled (a .n) (a .m) (a .table .now)) (itemIn (a .slots .now) i) (c .before .loop .start) (omega arith) (c .before .loop .inv .1))), omega arith)
+    let below : i < a .count = omega arith in (
+      c .before .loop .inv .0,
+      seek-next (wrongAt (tabled (a .n) (a .m) (a .table .now)) (a .slots .now)) (a .count) i below (c .before .before .before .before .before .before .before .items .inv .1)
+          (ap not (starts-done (tabled (a .n) (a .m) (a .table .now)) (itemIn (a .slots .now) i) (c .before .loop .start) (omega arith) (c .before .loop .inv .1))),
+      omega arith,
+    )
 
 returns : tie.Need-returns Inv-loop2 μ-loop2 Inv-loop μ-loop Inv-items μ-items
 unfolding firstWrong
-returns c = 
+returns c =
     let a = c .before .before .before .before .args in
     c .before .items .inv .0 ∙ seek-none (wrongAt (tabled (a .n) (a .m) (a .table .now)) (a .slots .now)) (a .count) (c .before .items .i) (omega arith) (c .before .items .inv .1)
 
 returns-2 : tie.Need-returns-2 Inv-loop2 μ-loop2 Inv-loop μ-loop Inv-items μ-items
 unfolding firstWrong
-returns-2 c = 
+returns-2 c =
     let a = c .before .before .before .before .before .before .before .before .before .before .before .before .before .before .before .before .before .before .before .before .before .before .before .args in
     let ok = c .before .before .before .before .before .before .before .before .before .before .before .before .before .before .before .before .before .before .before .before .before .before .before .pre .2 in
     let i = c .before .before .before .before .before .before .before .before .before .before .before .before .before .before .before .before .before .before .before .before .items .i in
     let below : i < a .count = omega arith in
     let S = c .before .before .before .before .before .before .before .before .before .before .before .before .before .before .loop .start in
     let whole =
-          reach-all (a .n) (a .m) (a .table .now) (c .before .before .before .before .before .before .before .before .before .before .before .before .before .before .loop .start) ((itemIn (a .slots .now) i) .forward) ((itemIn (a .slots .now) i) .phi) (c .before .before .before .before .before .before .before .loop2 .set) _ (c .before .before .before .before .before .before .before .loop2 .j) _
-          (omega (arith, forward-length (a .slots .now) i ok below, c .before .before .before .before .before .before .before .before .before .before .before .before .before .before .before .before .before .before .byte-at .ensures .0)) (c .before .before .before .before .before .before .before .loop2 .inv .0)
-          (c .before .before .before .before .before .before .before .before .before .before .before .before .before .before .before .before .u64-at .ensures ∙ phi-is (a .slots .now) i) (c .before .before .before .before .before .within .ensures) in
+    reach-all (a .n) (a .m) (a .table .now) (c .before .before .before .before .before .before .before .before .before .before .before .before .before .before .loop .start) ((itemIn (a .slots .now) i) .forward) ((itemIn (a .slots .now) i) .phi) (c .before .before .before .before .before .before .before .loop2 .set) _ (c .before .before .before .before .before .before .before .loop2 .j) _
+    (omega (arith, forward-length (a .slots .now) i ok below, c .before .before .before .before .before .before .before .before .before .before .before .before .before .before .before .before .before .before .byte-at .ensures .0)) (c .before .before .before .before .before .before .before .loop2 .inv .0)
+    (c .before .before .before .before .before .before .before .before .before .before .before .before .before .before .before .before .u64-at .ensures ∙ phi-is (a .slots .now) i) (c .before .before .before .before .before .within .ensures) in
     seek-found (wrongAt (tabled (a .n) (a .m) (a .table .now)) (a .slots .now)) (a .count) i below (c .before .before .before .before .before .before .before .before .before .before .before .before .before .before .before .before .before .before .before .before .items .inv .1)
     (ap not
     (start-fails (tabled (a .n) (a .m) (a .table .now)) (itemIn (a .slots .now) i) S (c .before .before .before .before .before .within .result .mask) whole (omega arith) (sym (c .before .before .before .before .before .before .before .before .before .before .before .has .ensures ∙ ap (λ (x : StateSet). member (x .mask) (c .before .before .before .before .before .before .before .before .before .before .before .before .before .before .loop .start)) (c .before .before .before .before .before .before .before .before .before .before .before .before .of .ensures) ∙ ap (λ (x : ℕ). member x (c .before .before .before .before .before .before .before .before .before .before .before .before .before .before .loop .start)) (c .before .before .before .before .before .before .before .before .before .before .before .before .before .before .before .u64-at2 .ensures ∙ psi-is (a .slots .now) i)) ∙ c .before .before .before .before .before .before .before .before .before .before .if1 .taken) (sym (c .before .before .before .before .is-empty .ensures) ∙ not-true _ (c .before .before .before .if2 .taken))

@@ -49,13 +49,15 @@ loop-less : tie.Need-loop-less Inv-loop μ-loop
 loop-less c = omega arith
 
 loop-again : tie.Need-loop-again Inv-loop μ-loop
-loop-again c = 
-    let a = c .before .before .before .before .before .args in
-    (size-next (a .slots .now) (a .first) (a .count) (c .before .before .before .loop .i) (c .before .before .before .loop .size) _ _ (omega arith) (c .before .before .before .loop .inv .0) (c .before .byte-at .ensures .0) (c .byte-at2 .ensures .0),
-    omega arith, omega arith)
+loop-again c =
+    let a = c .before .before .before .before .before .args in (
+      size-next (a .slots .now) (a .first) (a .count) (c .before .before .before .loop .i) (c .before .before .before .loop .size) _ _ (omega arith) (c .before .before .before .loop .inv .0) (c .before .byte-at .ensures .0) (c .byte-at2 .ensures .0),
+      omega arith,
+      omega arith,
+    )
 
 returns : tie.Need-returns Inv-loop μ-loop
-returns c = 
+returns c =
     let a = c .before .before .before .args in
     size-done (a .slots .now) (a .first) (a .count) (c .before .loop .i) (c .before .loop .size) (omega arith) (c .before .loop .inv .0)
 

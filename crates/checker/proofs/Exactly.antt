@@ -1,0 +1,161 @@
+-- The contract of checking gives what 01 says: 0 exactly where the bytes keep the rules and every item is a conditional reverse plan by
+-- trajectories, 8 exactly where they keep the rules and some item is not, the first such one being at the place. Assumes nothing.
+use mathlib.Core.Path.{_≡_, refl, sym, ap, _∙_, subst}
+use mathlib.Core.Bool.{Bool, true, false, not}
+use mathlib.Core.Logic.{_↔_}
+use mathlib.Core.List.{List}
+use Prim.Native.Nat.{ℕ, _≤_, _<_, zero-le}
+use native.Mathlib.Omega.{arith}
+use native.Mathlib.Decide.{decLt}
+use lib.Dec.{T, T-not}
+use lib.ListN.{length}
+use Rattle.base.specs.Lists.{Each}
+use Rattle.base.proofs.Lists.{each-at, each-of}
+use Rattle.base.proofs.Picks.{less-yes, less-no}
+use Rattle.base.proofs.Bounded.{seek-hit, seek-low}
+use Rattle.reversal.specs.Reversal.{AllowedItem, Accepted}
+use Rattle.reversal.specs.Chains.{absent, item}
+use Rattle.reversal.specs.Computed.Sets.{accepts}
+use Rattle.reversal.proofs.Reversals.{accepts↔}
+use Rattle.book.specs.Book.{Book, deviceOf, AllowedBook, bytesOf}
+use Rattle.book.specs.Lent.{TableRead, SlotsRead}
+use Rattle.book.specs.Parse.{parse}
+use Rattle.book.specs.Parse.Parsed.{Ok, Refused}
+use Rattle.book.proofs.Device.{device-proper}
+use Rattle.book.proofs.Reading.{parse-bytes, parse-fine}
+use Rattle.book.proofs.Refused.{refused-exactly}
+use Rattle.book.proofs.Codes.{refusal-codes}
+use Rattle.book.proofs.Table.{table-read}
+use Rattle.book.proofs.Slots.{slots-read}
+use Rattle.reader.specs.declared.Reading.{Reading}
+use Rattle.reader.specs.Reads.{refusal, done, Short, Long, Kept, Filled}
+use Rattle.reader.proofs.Exactly.{Way, by-short, by-fault, by-book, way, when-short, when-faulty, when-fine}
+use Rattle.checker.specs.Checks.{AcceptedBook, placeOf, FirstWrong, Checks, short, faulty, wrong, fine}
+use Rattle.checker.specs.Contract.{wrongItem, judgedBy, checkBy, CheckAs}
+
+-- ---- the judgement of a book, by trajectories
+module _ (b : Book) (a : AllowedBook b) where
+  accepted↔ : (i : ℕ) → i < length (b .items) → T (accepts (deviceOf b) (item (b .items) i)) ↔ Accepted (deviceOf b) (item (b .items) i)
+  accepted↔ i l =
+      accepts↔ (deviceOf b) (device-proper b a) (item (b .items) i) (each-at (AllowedItem (deviceOf b)) (b .items) (a .each-item) i absent l .psi-states)
+
+  -- every item before the one found is accepted
+  accepted-before : (i : ℕ) → i < wrongItem b → i < length (b .items) → Accepted (deviceOf b) (item (b .items) i)
+  unfolding wrongItem
+  accepted-before i h l = go (accepts (deviceOf b) (item (b .items) i)) refl
+    where
+      go : (x : Bool) → accepts (deviceOf b) (item (b .items) i) ≡ x → Accepted (deviceOf b) (item (b .items) i)
+      go true e = accepted↔ i l .0 (rw e tt)
+      go false e = absurd (omega (arith, seek-low (λ j. not (accepts (deviceOf b) (item (b .items) j))) (length (b .items)) 0 i zero-le (omega arith) (rw e tt)))
+
+  hit : wrongItem b < length (b .items) → T (not (accepts (deviceOf b) (item (b .items) (wrongItem b))))
+  unfolding wrongItem
+  hit h = seek-hit (λ j. not (accepts (deviceOf b) (item (b .items) j))) (length (b .items)) 0 (omega arith)
+
+  pub first-wrong : wrongItem b < length (b .items) → FirstWrong b (wrongItem b)
+  first-wrong h =
+      record {
+        known = h;
+        wrong = λ q. T-not (accepts (deviceOf b) (item (b .items) (wrongItem b))) (hit h) (accepted↔ (wrongItem b) h .1 q);
+        before = λ j l. accepted-before j l (omega arith);
+      }
+
+  pub all-accepted : length (b .items) ≤ wrongItem b → Each (Accepted (deviceOf b)) (b .items)
+  all-accepted h = each-of (Accepted (deviceOf b)) (b .items) absent (λ i l. accepted-before i (omega arith) l)
+
+  -- and the other way
+  pub wrong-first : (i : ℕ) → FirstWrong b i → wrongItem b ≡ i
+  wrong-first i f = go (decLt (wrongItem b) i) (decLt i (wrongItem b))
+    where
+      go : Dec (wrongItem b < i) → Dec (i < wrongItem b) → wrongItem b ≡ i
+      go (yes l) y = absurd (first-wrong (omega (arith, f .known)) .wrong (f .before (wrongItem b) l))
+      go (no l) (yes h) = absurd (f .wrong (accepted-before i h (f .known)))
+      go (no l) (no h) = omega arith
+
+  pub none-wrong : Each (Accepted (deviceOf b)) (b .items) → length (b .items) ≤ wrongItem b
+  none-wrong e = go (decLt (wrongItem b) (length (b .items)))
+    where
+      go : Dec (wrongItem b < length (b .items)) → length (b .items) ≤ wrongItem b
+      go (yes l) = absurd (first-wrong l .wrong (each-at (Accepted (deviceOf b)) (b .items) e (wrongItem b) absent l))
+      go (no l) = omega arith
+
+-- ---- the call
+module _ {s t d : List ℕ} {r : Reading} {t′ d′ : List ℕ} (c : CheckAs s t d r t′ d′) where
+  kept-short : Short t d → Kept t d t′ d′
+  kept-short h = record { table = c .table ∙ when-short s t d _ _ h; slots = c .slots ∙ when-short s t d _ _ h }
+
+  kept-faulty : Long t d → (code place : ℕ) → parse s ≡ Refused code place → Kept t d t′ d′
+  kept-faulty l code place e =
+      record { table = c .table ∙ when-faulty s t d _ _ l code place e; slots = c .slots ∙ when-faulty s t d _ _ l code place e }
+
+  filled : Long t d → (b : Book) → AllowedBook b → parse s ≡ Ok b → Filled b t d t′ d′
+  filled l b a e =
+      record {
+        table = subst (TableRead b t) (sym (c .table ∙ when-fine s t d _ _ l b e)) (table-read b t a (l .0));
+        slots = subst (SlotsRead b d) (sym (c .slots ∙ when-fine s t d _ _ l b e)) (slots-read b d a (l .1));
+      }
+
+  result-short : Short t d → r ≡ refusal 1 0
+  unfolding checkBy
+  result-short h = c .result ∙ when-short s t d refusal (judgedBy refusal done) h
+
+  result-faulty : Long t d → (code place : ℕ) → parse s ≡ Refused code place → r ≡ refusal code place
+  unfolding checkBy
+  result-faulty l code place e = c .result ∙ when-faulty s t d refusal (judgedBy refusal done) l code place e
+
+  result-book : Long t d → (b : Book) → parse s ≡ Ok b → r ≡ judgedBy refusal done b
+  unfolding checkBy
+  result-book l b e = c .result ∙ when-fine s t d refusal (judgedBy refusal done) l b e
+
+  result-wrong : Long t d → (b : Book) → parse s ≡ Ok b → wrongItem b < length (b .items) → r ≡ refusal 8 (placeOf b (wrongItem b))
+  result-wrong l b e h = result-book l b e ∙ sym (less-yes (refusal 8 (placeOf b (wrongItem b))) (refusal 8 (placeOf b (wrongItem b))) (done b) (wrongItem b) (length (b .items)) h refl)
+
+  result-fine : Long t d → (b : Book) → parse s ≡ Ok b → length (b .items) ≤ wrongItem b → r ≡ done b
+  result-fine l b e h = result-book l b e ∙ sym (less-no (done b) (refusal 8 (placeOf b (wrongItem b))) (done b) (wrongItem b) (length (b .items)) h refl)
+
+  pub checks : Checks s t d r t′ d′
+  checks = go (way s t d)
+    where
+      judged : Long t d → (b : Book) → parse s ≡ Ok b → AllowedBook b → bytesOf b ≡ s → Dec (wrongItem b < length (b .items)) → Checks s t d r t′ d′
+      judged l b e a same (yes h) = wrong l b a same (wrongItem b) (first-wrong b a h) (result-wrong l b e h) (filled l b a e)
+      judged l b e a same (no h) =
+          fine l b (record { allowed = a; bytes = same; accepted = all-accepted b a (omega arith) }) (result-fine l b e (omega arith)) (filled l b a e)
+
+      go : Way s t d → Checks s t d r t′ d′
+      go (by-short h) = short h (result-short h) (kept-short h)
+      go (by-fault l code place e) =
+          faulty l code place (refused-exactly s code place (c .bytes) .0 e) (result-faulty l code place e) (kept-faulty l code place e)
+      go (by-book l b e) = let (a, same) = parse-fine s b (c .bytes) e in judged l b e a same (decLt (wrongItem b) (length (b .items)))
+
+  -- ---- exactly
+  parsed : (b : Book) → AllowedBook b → bytesOf b ≡ s → parse s ≡ Ok b
+  parsed b a e = ap parse (sym e) ∙ parse-bytes b a
+
+  code-of : {x : Reading} → r ≡ x → r .code ≡ x .code
+  code-of e = ap (λ (y : Reading). y .code) e
+
+  -- "Checking answers 0 exactly when the bytes keep the rules and every item is a conditional reverse plan"
+  pub zero↔ : (r .code ≡ 0) ↔ (Long t d × ((b : Book) × AcceptedBook s b))
+  zero↔ = (λ e. forth e checks, back)
+    where
+      forth : r .code ≡ 0 → Checks s t d r t′ d′ → Long t d × ((b : Book) × AcceptedBook s b)
+      forth e (short h q k) = absurd (omega (arith, code-of q))
+      forth e (faulty l code place f q k) = absurd (omega (arith, code-of q, refusal-codes s code place f))
+      forth e (wrong l b a same i f q k) = absurd (omega (arith, code-of q))
+      forth e (fine l b a q k) = (l, (b, a))
+
+      back : Long t d × ((b : Book) × AcceptedBook s b) → r .code ≡ 0
+      back (l, (b, a)) = code-of (result-fine l b (parsed b (a .allowed) (a .bytes)) (none-wrong b (a .allowed) (a .accepted)))
+
+  -- "8 exactly when the bytes keep the rules and some item is not, the first such one being at the place"
+  pub eight↔ : (r .code ≡ 8) ↔ (Long t d × ((b : Book) × AllowedBook b × (bytesOf b ≡ s) × ((i : ℕ) × FirstWrong b i × (r .place ≡ placeOf b i))))
+  eight↔ = (λ e. forth e checks, back)
+    where
+      forth : r .code ≡ 8 → Checks s t d r t′ d′ → Long t d × ((b : Book) × AllowedBook b × (bytesOf b ≡ s) × ((i : ℕ) × FirstWrong b i × (r .place ≡ placeOf b i)))
+      forth e (short h q k) = absurd (omega (arith, code-of q))
+      forth e (faulty l code place f q k) = absurd (omega (arith, code-of q, refusal-codes s code place f))
+      forth e (wrong l b a same i f q k) = (l, (b, a, same, (i, f, ap (λ (y : Reading). y .place) q)))
+      forth e (fine l b a q k) = absurd (omega (arith, code-of q))
+
+      back : Long t d × ((b : Book) × AllowedBook b × (bytesOf b ≡ s) × ((i : ℕ) × FirstWrong b i × (r .place ≡ placeOf b i))) → r .code ≡ 8
+      back (l, (b, a, same, (i, f, p))) = code-of (result-wrong l b (parsed b a same) (omega (arith, wrong-first b a i f, f .known)))

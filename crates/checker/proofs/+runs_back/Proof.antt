@@ -9,7 +9,7 @@ use Rattle.reversal.specs.Computed.Sets.{runsBack}
 use Rattle.states.specs.declared.StateSet.{StateSet}
 use Rattle.states.specs.StateSets.{afterIn, ableIn}
 use Rattle.checker.proofs.Laws.{back-none, back-fails, back-more}
-use Prim.Native.Nat.{ℕ, _-_}
+use Prim.Native.Nat.{ℕ, _-_, _<_}
 use borrow.Fn.Kinds.{In}
 use borrow.Fn.PlainCycle.{Measures, is, falls, and}
 use Rattle.checker.proofs.runs_back.Reads as runs-back

@@ -1,0 +1,76 @@
+// Runs the cases of books.bin through reading and checking, and prints what each answers and leaves behind.
+use reader::Reading;
+
+// The table before a call: entry + 1 at each entry.
+fn pattern_table(table: &mut [u64]) {
+    for i in 0..table.len() {
+        table[i] = i as u64 + 1;
+    }
+}
+
+// The slots before a call: the index mod 251 at each byte.
+fn pattern_slots(slots: &mut [u8]) {
+    for i in 0..slots.len() {
+        slots[i] = (i % 251) as u8;
+    }
+}
+
+fn print_reading(r: Reading) {
+    let row = [r.code, r.place, r.n, r.m, r.items];
+    vectors::print_numbers(&row, 5);
+}
+
+fn read_case(book: &[u8], table: &mut [u64], slots: &mut [u8]) {
+    pattern_table(table);
+    pattern_slots(slots);
+    print_reading(reader::read(book, table, slots));
+}
+
+fn check_case(book: &[u8], table: &mut [u64], slots: &mut [u8]) {
+    pattern_table(table);
+    pattern_slots(slots);
+    print_reading(checker::check(book, table, slots));
+}
+
+// One case: reading, then checking with the buffers as before reading.
+fn run_case(book: &[u8], table: &mut [u64], slots: &mut [u8]) {
+    read_case(book, table, slots);
+    check_case(book, table, slots);
+    vectors::print_numbers(table, 40);
+    vectors::print_bytes(slots, 102);
+}
+
+// The case with buffers of the lengths that its first byte names.
+fn run_with(kind: u64, book: &[u8]) {
+    let mut table = [0u64; 2053];
+    let mut slots = [0u8; 2181];
+    if kind == 1 {
+        run_case(book, &mut table[..2047], &mut slots[..2176]);
+        return;
+    }
+    if kind == 2 {
+        run_case(book, &mut table[..2048], &mut slots[..2175]);
+        return;
+    }
+    if kind == 3 {
+        run_case(book, &mut table, &mut slots);
+        return;
+    }
+    run_case(book, &mut table[..2048], &mut slots[..2176]);
+}
+
+// All cases of the file: a byte, a two-byte length, the book.
+fn run_all(s: &[u8]) {
+    let mut at: usize = 0;
+    while at < s.len() {
+        let len = num::u16_at(s, at + 1) as usize;
+        run_with(num::byte_at(s, at), vectors::part(s, at + 3, len));
+        at = at + 3 + len;
+    }
+}
+
+fn main() {
+    let mut file = [0u8; 400000];
+    let size = vectors::read_file(b"books.bin", &mut file);
+    run_all(&file[..size]);
+}

@@ -1,0 +1,76 @@
+// What the test programs that run vector files share: a file, a part of it, and rows of numbers on standard output.
+use libc::STDOUT_FILENO;
+ghost use mathlib.Core.Path.{_≡_};
+ghost use Prim.Native.Nat.{_≤_, min};
+ghost use lib.ListN.{length, take, drop};
+ghost use Rattle.io.specs.Counts.{Counts};
+
+// The first bytes of a file; none where it can't be read.
+pub fn read_file(path: &[u8], buf: &mut [u8]) -> usize
+    ensures { λ r. ⌜ Counts r (now (buf .exit)) ⌝ }
+{
+    let fd = os::open_read(path);
+    if fd < 0 {
+        return 0;
+    }
+    let n = io::read_full(fd, buf);
+    libc::close(fd);
+    n
+}
+
+fn least(a: usize, b: usize) -> usize
+    ensures { λ r. ⌜ r ≡ min a b ⌝ }
+{
+    if a < b { a } else { b }
+}
+
+// The len bytes from `at` on, as far as there are any.
+pub fn part(s: &[u8], at: usize, len: usize) -> &[u8]
+    ensures { λ r. ⌜ now r ≡ take len (drop at (now (s .entry))) ⌝ }
+{
+    let from = least(at, s.len());
+    let to = from + least(len, s.len() - from);
+    &s[from..to]
+}
+
+// Prints n after a space, or at the beginning of a row.
+fn print_next(first: bool, n: u64) {
+    if !first {
+        io::write_all(STDOUT_FILENO, b" ");
+    }
+    io::print_decimal(STDOUT_FILENO, n);
+}
+
+// Prints the first numbers as a row; how many there were.
+pub fn print_numbers(t: &[u64], count: usize) -> usize
+    ensures { λ r. ⌜ r ≤ length (now (t .entry)) ⌝ }
+{
+    let mut i: usize = 0;
+    while i < t.len() {
+        if i == count {
+            io::write_all(STDOUT_FILENO, b"\n");
+            return i;
+        }
+        print_next(i == 0, t[i]);
+        i = i + 1;
+    }
+    io::write_all(STDOUT_FILENO, b"\n");
+    i
+}
+
+// Prints the first bytes as a row; how many there were.
+pub fn print_bytes(s: &[u8], count: usize) -> usize
+    ensures { λ r. ⌜ r ≤ length (now (s .entry)) ⌝ }
+{
+    let mut i: usize = 0;
+    while i < s.len() {
+        if i == count {
+            io::write_all(STDOUT_FILENO, b"\n");
+            return i;
+        }
+        print_next(i == 0, num::byte_at(s, i));
+        i = i + 1;
+    }
+    io::write_all(STDOUT_FILENO, b"\n");
+    i
+}

@@ -23,12 +23,20 @@ use Rattle.reversal.proofs.Fitting.{fits↔}
 use Rattle.reversal.proofs.EndToEnd.{chain-undoes}
 use Rattle.reversal.proofs.Assembling.{numbers-right, answer-right, answers-unique}
 use Rattle.reversal.proofs.Cases.{twelve}
+use Rattle.reader.proofs.Exactly.{reads, zero↔ as read-zero↔}
+use Rattle.reader.proofs.read as read
+use Rattle.reader.proofs.read.Symbol.{routine as read-routine}
+use Rattle.reader.proofs.read.Met.{met as read-met}
+use Rattle.checker.proofs.Exactly.{checks, zero↔ as check-zero↔, eight↔}
+use Rattle.checker.proofs.check as check
+use Rattle.checker.proofs.check.Symbol.{routine as check-routine}
+use Rattle.checker.proofs.check.Met.{met as check-met}
 use Rattle.ridge.proofs.Answers.{looked}
 use Rattle.ridge.proofs.lookup as lookup
 use Rattle.ridge.proofs.lookup.Symbol.{routine as lookup-routine}
 use Rattle.ridge.proofs.lookup.Met.{met as lookup-met}
 use Rattle.claims.specs.Always.{Always}
-use Rattle.claims.specs.Claims.{LookupContract, Lookup}
+use Rattle.claims.specs.Claims.{ReadContract, Reading, ReadingZero, CheckContract, Checking, CheckingZero, CheckingEight, LookupContract, Lookup}
 use Rattle.claims.proofs.Weaker.{weaker}
 
 -- ---- the meaning
@@ -72,6 +80,31 @@ only-answer = answers-unique
 -- the twelve cases of 01 on the small device Q
 pub cases : Twelve
 cases = twelve
+
+-- ---- reading
+
+pub read-contract : Always read.ended read-routine ReadContract
+read-contract M = read-met
+
+pub reading : Always read.ended read-routine Reading
+reading = weaker read.ended read-routine ReadContract Reading (λ κs a r e. reads) read-contract
+
+pub reading-zero : Always read.ended read-routine ReadingZero
+reading-zero = weaker read.ended read-routine ReadContract ReadingZero (λ κs a r e. read-zero↔) read-contract
+
+-- ---- checking
+
+pub check-contract : Always check.ended check-routine CheckContract
+check-contract M = check-met
+
+pub checking : Always check.ended check-routine Checking
+checking = weaker check.ended check-routine CheckContract Checking (λ κs a r e. checks) check-contract
+
+pub checking-zero : Always check.ended check-routine CheckingZero
+checking-zero = weaker check.ended check-routine CheckContract CheckingZero (λ κs a r e. check-zero↔) check-contract
+
+pub checking-eight : Always check.ended check-routine CheckingEight
+checking-eight = weaker check.ended check-routine CheckContract CheckingEight (λ κs a r e. eight↔) check-contract
 
 -- ---- the ridge lookup
 

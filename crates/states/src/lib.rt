@@ -3,7 +3,7 @@ ghost use mathlib.Core.Path.{_≡_};
 ghost use Prim.Native.Nat.{_<_, _≤_};
 ghost use lib.Dec.{eqb};
 ghost use lib.Bits.{bitAnd, bitOr};
-ghost use Rattle.base.specs.Masks.{member, clearFrom, added};
+ghost use Rattle.base.specs.Masks.{member, clearFrom, added, inside};
 ghost use Rattle.reversal.specs.Device.{entry};
 ghost use Rattle.states.specs.StateSets.{setOf, onlyIn, afterIn, beforeIn, ableIn};
 
@@ -49,6 +49,14 @@ impl StateSet {
         } else {
             false
         }
+    }
+
+    // Whether every state of the set is in `limit`.
+    pub fn is_inside(self, limit: u64) -> bool
+        ensures { λ r. ⌜ r ≡ inside (self .mask) limit ⌝ }
+    {
+        let mask = self.mask;
+        mask & limit == mask
     }
 
     // Whether no bit at n or above is set.

@@ -1,0 +1,2 @@
+// Assembling a roll-back plan for a run from the items of a book.
+mod beliefs;

@@ -1,0 +1,100 @@
+-- One text after another, and what is left of a line. Assumes nothing.
+use mathlib.Core.Path.{_≡_, refl, sym, ap, _∙_}
+use mathlib.Core.List.{List, [], _∷_, _++_, append-nil}
+use Prim.Native.Nat.{ℕ, zero, suc, _+_, _-_, _%_, _^_, _≤_, _<_, min}
+use native.Mathlib.Nat.{zero-add, sub-zero, suc-min-suc}
+use native.Mathlib.Numerals.{add-one}
+use native.Mathlib.Omega.{arith}
+use lib.ListN.{length, getD, take, length-append, length-take}
+use lib.Seq.{sets, take-all, take-nil, take-take}
+use Rattle.base.proofs.Picks.{same-yes, same-no}
+use Rattle.num.specs.Le.{bytesLe, piece}
+use Rattle.num.proofs.Put.{sets-append, piece-take}
+use Rattle.io.specs.Counts.{Counts}
+use Rattle.io.specs.Digits.{digits, Fewest}
+use Rattle.show.specs.Show.{newline, space, decimal, field, line, linesOf, planned}
+use Rattle.show.specs.Written.{Written}
+use Rattle.show.proofs.Decimal.{decimal-is}
+
+-- a text, and another at its end
+pub then : {old : List ℕ} {at : ℕ} {xs mid : List ℕ} {a : ℕ} {ys new : List ℕ} {next : ℕ} → Written old at xs mid a → Written mid a ys new next
+    → Written old at (xs ++ ys) new next
+then {old} {at} {xs} {mid} {a} {ys} u v =
+    record {
+      row = v .row ∙ ap (λ (l : List ℕ). sets l a ys) (u .row) ∙ sets-append old at a xs ys (sym (u .end));
+      end = omega (arith, length-append xs ys, u .end, v .end);
+    }
+
+-- one byte
+one-put : (old : List ℕ) (at b : ℕ) (new : List ℕ) → b < 256 → new ≡ sets old at (bytesLe 1 b) → Written old at (b ∷ []) new (at + 1)
+unfolding bytesLe
+one-put old at b new h e = let m : b % 256 ≡ b = omega arith in record { row = rw m at e; end = refl }
+
+-- the digits that `io::decimal` made, copied, and one byte
+pub field-put : (old mid new text : List ℕ) (at k n b : ℕ) → Counts k text → Fewest 10 1 n k → take k text ≡ digits 10 k n → n < 2 ^ 64 → b < 256
+    → mid ≡ sets old at (piece k (take k text) 0) → new ≡ sets mid (at + k) (bytesLe 1 b) → Written old at (field n b) new (at + k + 1)
+field-put old mid new text at k n b c f d h l e g =
+    let t : take k text ≡ decimal n = d ∙ decimal-is k n f h in
+    let p : piece k (take k text) 0 ≡ decimal n = piece-take k (take k text) 0 (omega arith) ∙ take-all k (take k text) (omega arith) ∙ t in
+    let w : Written old at (decimal n) mid (at + k) = record { row = rw p at e; end = ap (λ (x : ℕ). at + x) (c .1 ∙ ap length t) } in
+    then w (one-put mid (at + k) b new l g)
+
+-- ---- the commands of a plan
+
+-- what puts the rest at `next` puts the whole text at `at`
+abbrev pub Completes : List ℕ → ℕ → List ℕ → List ℕ → ℕ → List ℕ → Type 0
+Completes old at text out next rest = (new : List ℕ) (end : ℕ) → Written out next rest new end → Written old at text new end
+
+module _ (n : ℕ) (plan : List ℕ) where
+  pub plan-none : (old : List ℕ) (at : ℕ) (new : List ℕ) → n ≡ 0 → new ≡ sets old at (bytesLe 1 newline) → Written old at (line (piece n plan 0)) new (at + 1)
+  unfolding line piece
+  plan-none old at new h e = rw h (one-put old at newline new (omega arith) e)
+
+  pub plan-start : (old : List ℕ) (at : ℕ) → Completes old at (line (piece n plan 0)) old at (line (piece (n - 0) plan 0))
+  plan-start old at new end w = rw sub-zero at w
+
+  turn : (i : ℕ) → i + 1 < n → line (piece (n - i) plan i) ≡ field (getD plan i 0) space ++ line (piece (n - (i + 1)) plan (i + 1))
+  unfolding line piece
+  turn i h =
+      let p : n - i ≡ suc (suc (n - (i + 2))) = omega arith in
+      let q : n - (i + 1) ≡ suc (n - (i + 2)) = omega arith in
+      rw (p, q, add-one i)
+
+  module _ (old : List ℕ) (at : ℕ) (text out : List ℕ) (next i b : ℕ) (w : Completes old at text out next (line (piece (n - i) plan i)))
+      (e : b ≡ getD plan i 0) where
+    pub plan-again : i + 1 < n → (out′ : List ℕ) (next′ : ℕ) → Written out next (field b space) out′ next′
+        → Completes old at text out′ next′ (line (piece (n - (i + 1)) plan (i + 1)))
+    plan-again h out′ next′ u new end v = w new end (rw (turn i h, ← e) (then u v))
+
+    pub plan-last : i < n → n ≤ i + 1 → (new : List ℕ) (end : ℕ) → Written out next (field b newline) new end → Written old at text new end
+    unfolding line piece
+    plan-last h l new end u = let p : n - i ≡ 1 = omega arith in w new end (rw (p, ← e) u)
+
+-- the first of a list are as many as there are
+take-min : (k : ℕ) (l : List ℕ) → take (min k (length l)) l ≡ take k l
+take-min zero l = let e : min 0 (length l) ≡ 0 = omega arith in rw e
+take-min (suc k) [] = take-nil (min (suc k) 0)
+take-min (suc k) (x ∷ l) = rw suc-min-suc (ap (λ (t : List ℕ). x ∷ t) (take-min k l))
+
+planned-is : (commands : ℕ) (plan : List ℕ) → planned commands plan ≡ piece (min commands (min 256 (length plan))) plan 0
+planned-is commands plan =
+    let n = min commands (min 256 (length plan)) in
+    let e : min commands (length (take 256 plan)) ≡ n = rw length-take in
+    sym (take-min commands (take 256 plan)) ∙ rw e (take-take n 256 plan (omega arith)) ∙ sym (piece-take n plan 0 (omega arith))
+
+-- ---- both lines
+module _ (old : List ℕ) (code place commands legs : ℕ) (plan mid : List ℕ) (a : ℕ) (w : Written old 0 (line (code ∷ place ∷ commands ∷ legs ∷ [])) mid a) where
+  pub lines-refused : (code ≡ 0 → ⊥) → Written old 0 (linesOf code place commands legs (planned commands plan)) mid a
+  unfolding linesOf
+  lines-refused h = rw (← same-no _ (line (planned commands plan)) [] code 0 h refl, append-nil) w
+
+  pub lines-done : (n k : ℕ) (new : List ℕ) (next : ℕ) → code ≡ 0 → k ≡ min 256 (length plan) → n ≡ min commands k
+      → Written mid a (line (piece n plan 0)) new next → Written old 0 (linesOf code place commands legs (planned commands plan)) new next
+  unfolding linesOf
+  lines-done n k new next h e f u =
+      let p : planned commands plan ≡ piece n plan 0 = planned-is commands plan ∙ rw (f, e) in
+      rw (← same-yes _ (line (planned commands plan)) [] code 0 h refl, p) (then w u)
+
+-- a text at the start of a row
+pub at-start : {old text new : List ℕ} {next : ℕ} → Written old 0 text new next → (new ≡ sets old 0 text) × (next ≡ length text)
+at-start w = (w .row, w .end ∙ zero-add _)

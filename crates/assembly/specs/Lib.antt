@@ -1,1 +1,2 @@
 pub mod Believed
+pub mod Rules

@@ -1,2 +1,3 @@
 // Assembling a roll-back plan for a run from the items of a book.
 mod beliefs;
+mod points;

@@ -1,0 +1,71 @@
+-- The choice of an item at a point: each way through the loop over the items. Assumes nothing.
+use mathlib.Core.Path.{_≡_, refl, sym, ap, _∙_}
+use mathlib.Core.Bool.{Bool, true, false}
+use mathlib.Core.List.{List}
+use Prim.Native.Nat.{ℕ, zero, suc, _+_, _-_, _≤_, _<_, min}
+use native.Mathlib.Numerals.{add-one}
+use native.Mathlib.Omega.{arith}
+use lib.Dec.{leb, leb→le}
+use lib.ListN.{getD}
+use Rattle.base.specs.Tests.{pick, both}
+use Rattle.base.specs.Bounded.{least}
+use Rattle.base.proofs.Tests.{true-T, both-l}
+use Rattle.base.proofs.Bounded.{least-le}
+use Rattle.reversal.specs.Computed.Least.{Rule, via}
+use Rattle.assembly.specs.Rules.{kAt, sameAt, fitsAt, Chosen}
+
+-- an item that fits has room
+pub fits-room : (slots s sets : List ℕ) (a j : ℕ) → fitsAt slots s sets a j ≡ true → kAt slots a ≤ j
+unfolding fitsAt
+fits-room slots s sets a j e = leb→le (kAt slots a) j (both-l (leb (kAt slots a) j) (both _ (both _ _)) (true-T (fitsAt slots s sets a j) e))
+
+module _ (R : Rule) (ns : List ℕ) (j : ℕ) where
+  pub via-fit : (a k r x : ℕ) → R .fit a j ≡ true → k ≡ R .k a → r ≡ R .price a → x ≡ getD ns (j - k) 0 → r + x ≡ via R ns j a
+  unfolding via pick
+  via-fit a k r x f p q e = rw (f, e, p, q)
+
+  via-none : (a : ℕ) → R .fit a j ≡ false → via R ns j a ≡ R .top
+  unfolding via pick
+  via-none a f = rw f
+
+  pub choice-start : Chosen R ns j 0 (R .top) 0
+  unfolding least
+  choice-start =
+      record {
+        least-is = refl;
+        most = omega arith;
+        known = λ h. absurd (omega arith);
+        here = λ h. absurd (omega arith);
+        lowest = λ h. absurd (omega arith);
+      }
+
+  module _ {a number item : ℕ} (g : Chosen R ns j a number item) where
+    -- a longer way
+    keeps : number ≤ via R ns j a → Chosen R ns j (a + 1) number item
+    unfolding least
+    keeps l =
+        record {
+          least-is = rw add-one (omega (arith, g .least-is));
+          most = g .most;
+          known = λ h. omega (arith, g .known h);
+          here = g .here;
+          lowest = g .lowest;
+        }
+
+    pub choice-out : R .fit a j ≡ false → Chosen R ns j (a + 1) number item
+    choice-out f = keeps (omega (arith, via-none a f, g .most))
+
+    pub choice-kept : (sum : ℕ) → sum ≡ via R ns j a → number ≤ sum → Chosen R ns j (a + 1) number item
+    choice-kept sum e l = keeps (omega arith)
+
+    -- a shorter way
+    pub choice-taken : (sum : ℕ) → sum ≡ via R ns j a → sum < number → Chosen R ns j (a + 1) sum a
+    unfolding least
+    choice-taken sum e l =
+        record {
+          least-is = rw add-one (omega (arith, g .least-is));
+          most = omega (arith, g .most);
+          known = λ h. omega arith;
+          here = λ h. sym e;
+          lowest = λ h b m. omega (arith, least-le (R .top) (via R ns j) a b m, g .least-is);
+        }

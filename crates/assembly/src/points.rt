@@ -1,0 +1,70 @@
+// The fewest commands for each point of a run, and the item that begins a chain with so few.
+use states::StateSet;
+ghost use mathlib.Core.Path.{_≡_};
+ghost use Prim.Native.Nat.{_≤_, _<_};
+ghost use Rattle.assembly.specs.Rules.{fitsAt, ruleIn, Chosen};
+
+// Whether the item fits from point j, by the possible states at both ends.
+fn fits_at(slots: &[u8], a: u64, run: &[u8], sets: &[u64; 33], j: u64) -> bool
+    requires { ⌜ (a < 64) × (j ≤ 32) ⌝ }
+    ensures { λ r. ⌜ r ≡ fitsAt (now (slots .entry)) (now (run .entry)) (now (sets .entry)) a j ⌝ }
+{
+    let at = (34 * a) as usize;
+    let k = num::byte_at(slots, at);
+    if j < k {
+        return false;
+    }
+    let low = j - k;
+    for x in 0..k {
+        if num::byte_at(slots, at + 2 + x as usize) != runs::command_at(run, low + x) {
+            return false;
+        }
+    }
+    if !StateSet::of(sets[j as usize]).is_inside(num::u64_at(slots, at + 18)) {
+        return false;
+    }
+    StateSet::of(sets[low as usize]).is_inside(num::u64_at(slots, at + 26))
+}
+
+fn wide(x: u16) -> u64
+    ensures { λ r. ⌜ (r ≡ x) × (r < 65536) ⌝ }
+{
+    x as u64
+}
+
+// A number of commands, and the item that begins a chain with so many.
+pub struct Choice {
+    pub number: u64,
+    pub item: u64,
+}
+
+// The fewest commands from point j by any item, with those of the points below it known; among equals the lowest item.
+fn best(
+    slots: &[u8],
+    count: u64,
+    run: &[u8],
+    sets: &[u64; 33],
+    fewest: &[u16; 33],
+    j: u64,
+) -> Choice
+    requires { ⌜ (count ≤ 64) × (j ≤ 32) ⌝ }
+    ensures { λ r. ⌜ Chosen (ruleIn (now (slots .entry)) (now (run .entry)) (now (sets .entry)) count) (now (fewest .entry)) j count (r .number) (r .item) ⌝ }
+{
+    let mut number: u64 = 65535;
+    let mut item: u64 = 0;
+    for a in 0..count {
+        if fits_at(slots, a, run, sets, j) {
+            let at = (34 * a) as usize;
+            let low = j - num::byte_at(slots, at);
+            let sum = num::byte_at(slots, at + 1) + wide(fewest[low as usize]);
+            if sum < number {
+                number = sum;
+                item = a;
+            }
+        }
+    }
+    Choice {
+        number: number,
+        item: item,
+    }
+}

@@ -34,6 +34,7 @@ module _ (R : Rule) (ns : List ℕ) (j : ℕ) where
       record {
         least-is = refl;
         most = omega arith;
+        within = omega arith;
         known = λ h. absurd (omega arith);
         here = λ h. absurd (omega arith);
         lowest = λ h. absurd (omega arith);
@@ -47,6 +48,7 @@ module _ (R : Rule) (ns : List ℕ) (j : ℕ) where
         record {
           least-is = rw add-one (omega (arith, g .least-is));
           most = g .most;
+          within = omega (arith, g .within);
           known = λ h. omega (arith, g .known h);
           here = g .here;
           lowest = g .lowest;
@@ -65,6 +67,7 @@ module _ (R : Rule) (ns : List ℕ) (j : ℕ) where
         record {
           least-is = rw add-one (omega (arith, g .least-is));
           most = omega (arith, g .most);
+          within = omega arith;
           known = λ h. omega arith;
           here = λ h. sym e;
           lowest = λ h b m. omega (arith, least-le (R .top) (via R ns j) a b m, g .least-is);

@@ -1,3 +1,4 @@
 pub mod Passes
 pub mod Fits
 pub mod Choosing
+pub mod Numbers

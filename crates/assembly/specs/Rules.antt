@@ -2,16 +2,16 @@
 -- them to reversal's rule. Assumes nothing: these are definitions.
 use mathlib.Core.Path.{_≡_}
 use mathlib.Core.Bool.{Bool}
-use mathlib.Core.List.{List}
+use mathlib.Core.List.{List, _++_}
 use Prim.Native.Nat.{ℕ, _+_, _-_, _*_, _≤_, _<_}
 use lib.Dec.{eqb, leb}
-use lib.ListN.{getD, length}
+use lib.ListN.{getD, length, replicate}
 use Rattle.base.specs.Tests.{both}
-use Rattle.base.specs.Bounded.{all, least}
+use Rattle.base.specs.Bounded.{all, least, seek}
 use Rattle.base.specs.Masks.{inside}
 use Rattle.num.specs.Le.{leAt}
 use Rattle.reversal.specs.Chains.{none}
-use Rattle.reversal.specs.Computed.Least.{Rule, via, leasts}
+use Rattle.reversal.specs.Computed.Least.{Rule, via, leasts, leastAt, begins}
 use Rattle.runs.specs.Computed.{commandOf}
 
 -- the numbers of forward and reverse commands of item a
@@ -38,6 +38,18 @@ ruleIn slots s sets count = record { count = count; k = kAt slots; price = rAt s
 pub record Chosen (R : Rule) (ns : List ℕ) (j count number item : ℕ) : Type 0 where
   pub least-is : number ≡ least (R .top) (via R ns j) count
   pub most : number ≤ R .top
+  pub within : item ≤ count
   pub known : number < R .top → item < count
   pub here : number < R .top → via R ns j item ≡ number
   pub lowest : number < R .top → (b : ℕ) → b < item → number < via R ns j b
+
+-- every item has a forward command
+abbrev pub Moving : List ℕ → ℕ → Type 0
+Moving slots count = (a : ℕ) → a < count → 1 ≤ kAt slots a
+
+-- the numbers of the points 0 to j, none above, and for each point that has one the lowest item that begins a chain with so few
+pub record Numbered (R : Rule) (j : ℕ) (numbers items : List ℕ) : Type 0 where
+  pub low : j ≤ 32
+  pub fewest : numbers ≡ leasts R j ++ replicate (32 - j) none
+  pub size : length items ≡ 33
+  pub first : (l : ℕ) → 1 ≤ l → l ≤ j → leastAt R l < R .top → getD items l 0 ≡ seek (begins R l) 0 (R .count)

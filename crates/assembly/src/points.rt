@@ -2,7 +2,7 @@
 use states::StateSet;
 ghost use mathlib.Core.Path.{_≡_};
 ghost use Prim.Native.Nat.{_≤_, _<_};
-ghost use Rattle.assembly.specs.Rules.{fitsAt, ruleIn, Chosen};
+ghost use Rattle.assembly.specs.Rules.{fitsAt, ruleIn, Chosen, Moving, Numbered};
 
 // Whether the item fits from point j, by the possible states at both ends.
 fn fits_at(slots: &[u8], a: u64, run: &[u8], sets: &[u64; 33], j: u64) -> bool
@@ -66,5 +66,32 @@ fn best(
     Choice {
         number: number,
         item: item,
+    }
+}
+
+// The fewest commands for each of the 33 points, and the item that begins a chain with so few.
+pub struct Points {
+    pub fewest: [u16; 33],
+    pub items: [u8; 33],
+}
+
+// The numbers from point 0 upward; each point tries each item once.
+pub(crate) fn points_of(slots: &[u8], count: u64, run: &[u8], sets: &[u64; 33], i: u64) -> Points
+    requires { ⌜ (count ≤ 64) × (i ≤ 32) × Moving (now slots) count ⌝ }
+    ensures { λ r. ⌜ Numbered (ruleIn (now (slots .entry)) (now (run .entry)) (now (sets .entry)) count) i (r .fewest) (r .items) ⌝ }
+{
+    let mut fewest = [65535u16; 33];
+    let mut items = [0u8; 33];
+    fewest[0] = 0;
+    let mut j: u64 = 0;
+    while j < i {
+        let choice = best(slots, count, run, sets, &fewest, j + 1);
+        fewest[j as usize + 1] = choice.number as u16;
+        items[j as usize + 1] = choice.item as u8;
+        j = j + 1;
+    }
+    Points {
+        fewest: fewest,
+        items: items,
     }
 }

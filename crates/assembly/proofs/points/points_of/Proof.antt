@@ -1,0 +1,91 @@
+-- `points_of` meets its contract. The loop's invariant: the numbers up to point j (`Numbered`). Assumes nothing.
+use mathlib.Core.Path.{_≡_, refl, subst}
+use Prim.Native.Nat.{ℕ, _-_, _≤_}
+use native.Mathlib.Omega.{arith}
+use Rattle.assembly.specs.Rules.{ruleIn, Numbered}
+use Rattle.assembly.proofs.Numbers.{numbered-start, numbered-next}
+use Rattle.assembly.proofs.points.points_of.Statement.{statement}
+use Rattle.assembly.proofs.points.points_of.Tie as tie
+use Rattle.assembly.proofs.points.points_of.Reads as reads
+use Rattle.assembly.proofs.points.points_of.Lts as lts
+use Rattle.assembly.proofs.points.best.Reads as best-reads
+
+abbrev Inv-loop : tie.InvT-loop
+Inv-loop slots count run sets i fewest₀ items₀ j₀ fewest items j = Numbered (ruleIn slots run sets count) j fewest items × (j ≤ i)
+
+abbrev μ-loop : tie.MeasureT-loop
+μ-loop slots count run sets i fewest₀ items₀ j₀ fewest items j = i - j
+
+array-write-fewest : tie.Need-array-write-fewest Inv-loop μ-loop
+array-write-fewest c = omega arith
+
+loop-holds : tie.Need-loop-holds Inv-loop μ-loop
+loop-holds c = (numbered-start (ruleIn (c .before .before .args .slots .now) (c .before .before .args .run .now) (c .before .before .args .sets .now) (c .before .before .args .count)) refl (c .before .before .pre .2), omega arith)
+
+add-best : tie.Need-add-best Inv-loop μ-loop
+add-best c = omega arith
+
+best-requires : tie.Need-best-requires Inv-loop μ-loop
+best-requires c κs = omega arith
+
+cast-fewest : tie.Need-cast-fewest Inv-loop μ-loop
+cast-fewest c = omega (arith, c .before .best .ensures .most)
+
+add-fewest : tie.Need-add-fewest Inv-loop μ-loop
+add-fewest c = omega arith
+
+mul-fewest : tie.Need-mul-fewest Inv-loop μ-loop
+mul-fewest c = omega arith
+
+array-write-fewest-2 : tie.Need-array-write-fewest-2 Inv-loop μ-loop
+array-write-fewest-2 c = omega arith
+
+cast-items : tie.Need-cast-items Inv-loop μ-loop
+cast-items c = omega (arith, c .before .before .best .ensures .within)
+
+add-items : tie.Need-add-items Inv-loop μ-loop
+add-items c = omega arith
+
+array-write-items : tie.Need-array-write-items Inv-loop μ-loop
+array-write-items c = omega arith
+
+add-j : tie.Need-add-j Inv-loop μ-loop
+add-j c = omega arith
+
+loop-less : tie.Need-loop-less Inv-loop μ-loop
+loop-less c = omega arith
+
+loop-again : tie.Need-loop-again Inv-loop μ-loop
+loop-again c = 
+    let a = c .before .before .before .before .before .before .before .before .args in
+    let l = c .before .before .before .before .before .loop in
+    (numbered-next (ruleIn (c .before .before .before .before .before .before .before .before .args .slots .now) (c .before .before .before .before .before .before .before .before .args .run .now) (c .before .before .before .before .before .before .before .before .args .sets .now) (c .before .before .before .before .before .before .before .before .args .count)) refl (c .before .before .before .before .before .before .before .before .pre .2) (l .j) (l .fewest) (l .items) _ _ (omega arith) (l .inv .0) (c .before .before .best .ensures), omega arith)
+
+returns : tie.Need-returns Inv-loop μ-loop
+returns c = 
+    let a = c .before .before .before .before .args in
+    let l = c .before .loop in
+    let done : l .j ≡ a .i = omega (arith, l .inv .1) in
+    subst (λ (x : ℕ). Numbered (ruleIn (c .before .before .before .before .args .slots .now) (c .before .before .before .before .args .run .now) (c .before .before .before .before .args .sets .now) (c .before .before .before .before .args .count)) x (l .fewest) (l .items)) done (l .inv .0)
+
+pub points-of-spec : {M : Type 1} → statement M
+points-of-spec =
+    tie.close
+    (tie.spec
+    Inv-loop
+    μ-loop
+    array-write-fewest
+    loop-holds
+    add-best
+    best-requires
+    cast-fewest
+    add-fewest
+    mul-fewest
+    array-write-fewest-2
+    cast-items
+    add-items
+    array-write-items
+    add-j
+    loop-less
+    loop-again
+    returns)

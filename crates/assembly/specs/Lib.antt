@@ -1,2 +1,4 @@
 pub mod Believed
 pub mod Rules
+pub mod Walk
+pub mod Walking

@@ -1,6 +1,6 @@
 -- Q's book as bytes: its 225 bytes are accepted, and read as the device and items of the joint table; with the item of Q2 in place of item 1 it is
 -- refused at that item's record, with the item of Q3 behind it at its end. Assumes nothing.
-use mathlib.Core.Path.{_≡_, refl, ap, _∙_}
+use mathlib.Core.Path.{_≡_, refl, _∙_}
 use mathlib.Core.List.{List, [], _∷_, _++_}
 use Prim.Native.Nat.{ℕ}
 use lib.ListN.{take, drop}
@@ -9,11 +9,10 @@ use Rattle.base.specs.Compare.{less, atMost, same, differ}
 use Rattle.base.specs.Bounded.{all, union, seek}
 use Rattle.base.specs.Masks.{member, clearFrom}
 use Rattle.num.specs.Le.{bytesLe}
-use Rattle.reversal.specs.Reversal.{Item}
 use Rattle.reversal.specs.Twelve.{made}
 use Rattle.reversal.specs.Computed.Sets.{after, able, reach, runsBack, ends, startOk, accepts}
 use Rattle.book.specs.Book.{Book, outcomeOf, frame, itemRec}
-use Rattle.book.specs.Parse.{Parsed, parse, cutAfter, scan, step, allBelow, moveOf, itemOf, movesIn, itemsIn}
+use Rattle.book.specs.Parse.{parse, cutAfter, scan, step, allBelow, moveOf, itemOf, movesIn, itemsIn}
 use Rattle.book.specs.Parse.Parsed.{Ok}
 use Rattle.book.specs.Example.{bookQ, bytesQ}
 use Rattle.book.proofs.Example.{parse-bytesQ}

@@ -1,10 +1,10 @@
 -- The claims. First the meaning, on values; then the public calls as compiled: what holds after every call, whatever it is passed.
-use mathlib.Core.Path.{_≡_}
+use mathlib.Core.Path.{_≡_, refl, subst}
 use mathlib.Core.Logic.{_↔_}
 use mathlib.Core.List.{List}
 use Prim.Native.Nat.{ℕ, _+_, _*_, _≤_, _<_, zero-le}
 use lib.Dec.{T}
-use lib.ListN.{getD}
+use lib.ListN.{length, getD}
 use Rattle.base.specs.Sets.{In, NoBitFrom}
 use Rattle.base.specs.Lists.{Each}
 use Rattle.reversal.specs.Device.{Device, Proper, tabled}
@@ -23,6 +23,8 @@ use Rattle.reversal.proofs.Fitting.{fits↔}
 use Rattle.reversal.proofs.EndToEnd.{chain-undoes}
 use Rattle.reversal.proofs.Assembling.{numbers-right, answer-right, answers-unique}
 use Rattle.reversal.proofs.Cases.{twelve}
+use Rattle.book.specs.Book.{bytesOf, WellFormed}
+use Rattle.book.proofs.Largest.{length-book, largest-book}
 use Rattle.reader.proofs.Exactly.{reads, zero↔ as read-zero↔}
 use Rattle.reader.proofs.read as read
 use Rattle.reader.proofs.read.Symbol.{routine as read-routine}
@@ -31,13 +33,19 @@ use Rattle.checker.proofs.Exactly.{checks, zero↔ as check-zero↔, eight↔}
 use Rattle.checker.proofs.check as check
 use Rattle.checker.proofs.check.Symbol.{routine as check-routine}
 use Rattle.checker.proofs.check.Met.{met as check-met}
+use Rattle.writer.proofs.Answers.{writes}
+use Rattle.writer.proofs.RoundTrips.{writes-zero↔, write-well-formed, write-length}
+use Rattle.writer.proofs.write as write
+use Rattle.writer.proofs.write.Symbol.{routine as write-routine}
+use Rattle.writer.proofs.write.Met.{met as write-met}
 use Rattle.ridge.proofs.Answers.{looked}
 use Rattle.ridge.proofs.lookup as lookup
 use Rattle.ridge.proofs.lookup.Symbol.{routine as lookup-routine}
 use Rattle.ridge.proofs.lookup.Met.{met as lookup-met}
 use Rattle.claims.specs.Always.{Always}
-use Rattle.claims.specs.Claims.{ReadContract, Reading, ReadingZero, CheckContract, Checking, CheckingZero, CheckingEight, LookupContract, Lookup}
+use Rattle.claims.specs.Claims.{ReadContract, Reading, ReadingZero, CheckContract, Checking, CheckingZero, CheckingEight, WriteContract, Writing, WritingZero, WellWritten, WriteBack, ReadBack, LookupContract, Lookup}
 use Rattle.claims.proofs.Weaker.{weaker}
+use Rattle.claims.proofs.RoundTrips.{write-back, read-back}
 
 -- ---- the meaning
 
@@ -105,6 +113,35 @@ checking-zero = weaker check.ended check-routine CheckContract CheckingZero (λ 
 
 pub checking-eight : Always check.ended check-routine CheckingEight
 checking-eight = weaker check.ended check-routine CheckContract CheckingEight (λ κs a r e. eight↔) check-contract
+
+-- ---- writing
+
+pub write-contract : Always write.ended write-routine WriteContract
+write-contract M = write-met
+
+pub writing : Always write.ended write-routine Writing
+writing = weaker write.ended write-routine WriteContract Writing (λ κs a r e. writes) write-contract
+
+pub writing-zero : Always write.ended write-routine WritingZero
+writing-zero = weaker write.ended write-routine WriteContract WritingZero (λ κs a r e. writes-zero↔) write-contract
+
+pub well-written : Always write.ended write-routine WellWritten
+well-written = weaker write.ended write-routine WriteContract WellWritten (λ κs a r e c z. (write-well-formed c z, write-length c)) write-contract
+
+-- ---- the round trips
+
+pub read-then-write : Always write.ended write-routine WriteBack
+read-then-write = weaker write.ended write-routine WriteContract WriteBack (λ κs a r e. write-back) write-contract
+
+pub write-then-read : Always read.ended read-routine ReadBack
+write-then-read = weaker read.ended read-routine ReadContract ReadBack (λ κs a r e. read-back) read-contract
+
+-- "at most 31,110 bytes", and one book has exactly that many
+pub longest : (bytes : List ℕ) → WellFormed bytes → length bytes ≤ 31110
+longest bytes (b, a, e) = subst (λ (s : List ℕ). length s ≤ 31110) e (length-book b a)
+
+pub as-long : (bytes : List ℕ) × WellFormed bytes × (length bytes ≡ 31110)
+as-long = let (b, a, e) = largest-book in (bytesOf b, (b, a, refl), e)
 
 -- ---- the ridge lookup
 

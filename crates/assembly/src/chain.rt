@@ -1,0 +1,46 @@
+// The chain from a point down, written as a plan and legs.
+ghost use mathlib.Core.Path.{_≡_};
+ghost use Prim.Native.Nat.{_<_};
+ghost use lib.Seq.{sets};
+ghost use Rattle.assembly.specs.Walk.{legBytes, Walkable, Walked};
+
+// What was written.
+pub struct Counts {
+    pub commands: u64,
+    pub legs: u64,
+}
+
+// A leg: item number, upper point, lower point, a byte each.
+fn put_leg(legs: &mut [u8], at: usize, number: u64, upper: u64, lower: u64)
+    requires { ⌜ (at < 1024) × (number < 256) × (upper < 256) × (lower < 256) ⌝ }
+    ensures { λ _. ⌜ now (legs .exit) ≡ sets (now (legs .entry)) at (legBytes number upper lower) ⌝ }
+{
+    num::put_le(1, number, legs, at);
+    num::put_le(1, upper, legs, at + 1);
+    num::put_le(1, lower, legs, at + 2);
+}
+
+// Follows the items from point i down to 0; writes the reverse commands and a leg of each.
+pub(crate) fn write_chain(slots: &[u8], items: &[u8; 33], i: u64, plan: &mut [u8], legs: &mut [u8]) -> Counts
+    requires { ⌜ Walkable (now slots) (now items) i ⌝ }
+    ensures { λ r. ⌜ Walked (now (slots .entry)) (now (items .entry)) i (now (plan .entry)) (now (legs .entry)) r (now (plan .exit)) (now (legs .exit)) ⌝ }
+{
+    let mut j = i;
+    let mut commands: u64 = 0;
+    let mut count: u64 = 0;
+    while 0 < j {
+        let a = items[j as usize] as u64;
+        let at = (34 * a) as usize;
+        let k = num::byte_at(slots, at);
+        let r = num::byte_at(slots, at + 1);
+        num::copy(r as usize, slots, at + 10, plan, commands as usize);
+        put_leg(legs, (3 * count) as usize, a, j, j - k);
+        commands = commands + r;
+        count = count + 1;
+        j = j - k;
+    }
+    Counts {
+        commands: commands,
+        legs: count,
+    }
+}

@@ -1,0 +1,93 @@
+// Runs the 500 cases of writes.bin, made by a second program, through `writer::write`, and prints for each the answer and the output's first bytes.
+// A case has 511 bytes: n, m and the count, 8 bytes each; a byte that says which buffer is one short; 48 entries, 8 bytes each; 3 slots.
+use libc::STDOUT_FILENO;
+use writer::Writing;
+ghost use Prim.Native.Nat.{_≤_};
+
+// The case's entries; all later ones stay.
+fn fill_table(case: &[u8], table: &mut [u64]) {
+    let mut i: usize = 0;
+    while i < 48 {
+        if table.len() <= i {
+            return;
+        }
+        table[i] = num::u64_at(case, 25 + 8 * i);
+        i = i + 1;
+    }
+}
+
+// The stated length of a buffer, or one less.
+fn size(stated: usize, short: bool) -> usize
+    ensures { λ r. ⌜ r ≤ stated ⌝ }
+{
+    if stated == 0 {
+        return 0;
+    }
+    if short { stated - 1 } else { stated }
+}
+
+fn print_word(n: u64) {
+    io::print_decimal(STDOUT_FILENO, n);
+    io::write_all(STDOUT_FILENO, b" ");
+}
+
+fn print_last(n: u64) {
+    io::print_decimal(STDOUT_FILENO, n);
+    io::write_all(STDOUT_FILENO, b"\n");
+}
+
+// The bytes 0 to last, on a line.
+fn print_bytes(bytes: &[u8], last: usize) {
+    for i in 0..last {
+        print_word(num::byte_at(bytes, i));
+    }
+    print_last(num::byte_at(bytes, last));
+}
+
+// Fills the lent buffers and writes; each buffer is lent on whole, or one short.
+fn write_case(case: &[u8], table: &mut [u64], slots: &mut [u8], out: &mut [u8]) -> Writing {
+    fill_table(case, table);
+    num::copy(102, case, 409, slots, 0);
+    let short = num::byte_at(case, 24);
+    let table_size = size(table.len(), short == 2);
+    let slots_size = size(slots.len(), short == 3);
+    let out_size = size(out.len(), short == 1);
+    writer::write(
+        num::u64_at(case, 0),
+        num::u64_at(case, 8),
+        num::u64_at(case, 16),
+        &table[..table_size],
+        &slots[..slots_size],
+        &mut out[..out_size],
+    )
+}
+
+// One case: code, place and length on a line; the output's bytes 0 to length + 3 on the next.
+fn run(case: &[u8]) {
+    let mut table = [0u64; 2048];
+    let mut slots = [0u8; 2176];
+    let mut out = [90u8; 31110];
+    let r = write_case(case, &mut table, &mut slots, &mut out);
+    print_word(r.code);
+    print_word(r.place);
+    print_last(r.length);
+    let length = r.length;
+    if length < 31107 {
+        print_bytes(&out, length as usize + 3);
+    }
+}
+
+fn main() {
+    let path = b"writes.bin";
+    let file = os::open_read(path);
+    if file < 0 {
+        os::fail(path);
+        return;
+    }
+    let mut case = [0u8; 511];
+    for _ in 0..500u64 {
+        io::read_full(file, &mut case);
+        run(&case);
+    }
+    libc::close(file);
+}

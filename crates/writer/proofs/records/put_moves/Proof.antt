@@ -1,0 +1,75 @@
+-- `writer::records::put_moves` meets its contract. The loop's invariant: storing the records of the entries that are left, from `p` on, gives the
+-- whole, and its length. The measure is the number of entries that are left. Assumes nothing.
+use mathlib.Core.Path.{_≡_}
+use Prim.Native.Nat.{_+_, _-_, _*_, _≤_}
+use native.Mathlib.Nat.{sub-zero}
+use native.Mathlib.Omega.{arith}
+use borrow.Author.Needs.{needs}
+use lib.ListN.{length}
+use lib.Seq.{sets}
+use Rattle.writer.specs.Records.{movesBytes}
+use Rattle.writer.proofs.Rows.{rows-again, count-again, rows-done, count-done, move-rows}
+use Rattle.writer.proofs.records.put_moves.Statement.{statement}
+use Rattle.writer.proofs.records.put_moves.Tie as tie
+
+abbrev Inv-loop : tie.InvT-loop
+Inv-loop k t m d₀ at i₀ p₀ d i p =
+    (sets d p (movesBytes (k - i) t i m) ≡ sets d₀ at (movesBytes k t 0 m))
+    × (p + length (movesBytes (k - i) t i m) ≡ at + length (movesBytes k t 0 m))
+    × (p ≤ at + 14 * i)
+    × (length d ≡ length d₀)
+    × (i ≤ k)
+
+abbrev μ-loop : tie.MeasureT-loop
+μ-loop k t m d₀ at i₀ p₀ d i p = k - i
+
+loop-holds : tie.Need-loop-holds Inv-loop μ-loop
+loop-holds c = (rw sub-zero, rw sub-zero, omega arith, search needs, omega arith)
+
+put-entry-requires : tie.Need-put-entry-requires Inv-loop μ-loop
+put-entry-requires c κs = search needs
+
+add-i : tie.Need-add-i Inv-loop μ-loop
+add-i c = search needs
+
+loop-less : tie.Need-loop-less Inv-loop μ-loop
+loop-less c = search needs
+
+loop-again : tie.Need-loop-again Inv-loop μ-loop
+loop-again c =
+    let a = c .before .before .before .before .before .before .before .before .args in
+    let v = c .before .before .before .before .before .loop in
+    let o = c .before .before .put-entry .ensures in
+    let rows = move-rows (a .t .now) (a .m) in
+    let l = c .before .before .before .before .loop-test .taken in (
+      rows-again rows (a .k) (v .i) _ _ _ (v .p) _ (v .inv .0) l (o .0) (o .1 .0),
+      count-again rows (a .k) (v .i) (v .p) _ _ (v .inv .1) l (o .1 .0),
+      omega arith,
+      search needs,
+      omega arith,
+    )
+
+same-length : tie.Need-same-length Inv-loop μ-loop
+same-length c = search needs
+
+returns : tie.Need-returns Inv-loop μ-loop
+returns c =
+    let a = c .before .before .before .before .args in
+    let v = c .before .loop in
+    let rows = move-rows (a .t .now) (a .m) in
+    let l = c .loop-test .left in
+    (rows-done rows (a .k) (v .i) _ _ (v .p) (v .inv .0) l, (count-done rows (a .k) (v .i) (v .p) _ (v .inv .1) l, omega arith))
+
+pub put-moves-spec : {M : Type 1} → statement M
+put-moves-spec =
+    tie.close
+    (tie.spec
+    Inv-loop
+    μ-loop
+    loop-holds
+    put-entry-requires
+    add-i
+    loop-less
+    loop-again
+    same-length
+    returns)

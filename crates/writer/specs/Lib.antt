@@ -1,0 +1,4 @@
+pub mod Writes
+pub mod Records
+pub mod Checks
+pub mod Contract

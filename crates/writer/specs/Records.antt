@@ -1,0 +1,36 @@
+-- The bytes that the writer's functions store, in the code's order; proofs/ ties them to `bytesOf`. Assumes nothing: these are definitions.
+use mathlib.Core.List.{List, [], _++_, map}
+use Prim.Native.Nat.{ℕ, _+_, _*_, _<_, _≤_}
+use lib.ListN.{getD, drop}
+use Rattle.base.specs.Tests.{pick}
+use Rattle.base.specs.Compare.{same}
+use Rattle.num.specs.Le.{bytesLe, leAt, piece}
+use Rattle.book.specs.Book.{Move, frame, framed, moveRec, itemRec}
+use Rattle.book.specs.Buffers.{moveAt, movesFrom, itemsFrom}
+
+abbrev pub move : ℕ → ℕ → ℕ → Move
+move state command mask = record { state = state; command = command; mask = mask }
+
+-- the record of entry i, where it is not 0
+unfoldable pub entryBytes : List ℕ → ℕ → ℕ → List ℕ
+entryBytes t i m = pick (same (getD t i 0) 0) [] (frame (moveRec (moveAt t i m)))
+
+-- the records of the k entries from i on
+unfoldable pub movesBytes : ℕ → List ℕ → ℕ → ℕ → List ℕ
+movesBytes k t i m = framed (map moveRec (movesFrom k t i m))
+
+-- the record of an item in two parts
+unfoldable pub itemHead : ℕ → ℕ → List ℕ
+itemHead k r = bytesLe 2 (18 + k + r) ++ bytesLe 2 3 ++ bytesLe 1 k ++ bytesLe 1 r
+
+unfoldable pub itemTail : List ℕ → ℕ → ℕ → ℕ → List ℕ
+itemTail s q k r = piece k s (q + 2) ++ piece r s (q + 10) ++ bytesLe 8 (leAt 8 s (q + 18)) ++ bytesLe 8 (leAt 8 s (q + 26))
+
+-- the records of the c slots from slot i on
+unfoldable pub itemsBytes : ℕ → List ℕ → ℕ → List ℕ
+itemsBytes c s i = framed (map itemRec (itemsFrom c (drop (34 * i) s)))
+
+-- each of the first c slots has counts of at most 8
+pub record CountsFine (c : ℕ) (s : List ℕ) : Type 0 where
+  pub forward : (i : ℕ) → i < c → getD s (34 * i) 0 ≤ 8
+  pub reverse : (i : ℕ) → i < c → getD s (34 * i + 1) 0 ≤ 8

@@ -1,0 +1,67 @@
+-- What writing answers (01, "Writing"), for the reader. Assumes nothing: these are definitions.
+use mathlib.Core.Path.{_≡_}
+use mathlib.Core.List.{List}
+use Prim.Native.Nat.{ℕ, _*_, _<_, _≤_}
+use lib.ListN.{length, getD, take, drop}
+use Rattle.base.specs.Sets.{NoBitFrom}
+use Rattle.reversal.specs.Device.{tabled}
+use Rattle.book.specs.Book.{AllowedDevice, bytesOf}
+use Rattle.book.specs.Buffers.{bookFrom, SlotFine, Writable}
+use Rattle.writer.specs.declared.Writing.{Writing}
+
+-- "a table (2,048 entries of 64 bits ..) and slots (64 of 34 bytes ..)", "an output buffer of at least 31,110 bytes"
+pub record LongEnough (table slots out : List ℕ) : Type 0 where
+  pub table-size : 2048 ≤ length table
+  pub slots-size : 64 * 34 ≤ length slots
+  pub out-size : 31110 ≤ length out
+
+-- "the lowest": of the numbers below k, the first at which P does not hold
+pub record LowestWrong (P : ℕ → Type 0) (k i : ℕ) : Type 0 where
+  pub inside : i < k
+  pub wrong : P i → ⊥
+  pub lower : (j : ℕ) → j < i → P j
+
+-- the entry i has no bit at n or above
+abbrev pub EntryRight : ℕ → List ℕ → ℕ → Type 0
+EntryRight n table i = NoBitFrom n (getD table i 0)
+
+-- the slot i keeps an item's limits, and its unused command bytes are zero. "It doesn't judge items."
+abbrev pub SlotRight : ℕ → ℕ → List ℕ → List ℕ → ℕ → Type 0
+SlotRight n m table slots i = SlotFine (tabled n m table) (drop (34 * i) slots)
+
+-- "It refuses .. in this order": each case says that none before it holds. "Entries from n × m on and slots past the count are ignored."
+pub data Refuses (n m items : ℕ) (table slots out : List ℕ) : ℕ → ℕ → Type 0 where
+  -- "1": "a lent buffer shorter than stated"
+  short : (LongEnough table slots out → ⊥) → Refuses n m items table slots out 1 0
+  -- "5 at place 0 for n or m"
+  device : LongEnough table slots out → (AllowedDevice n m → ⊥) → Refuses n m items table slots out 5 0
+  -- "7 at place 0 for a count above 64"
+  count : LongEnough table slots out → AllowedDevice n m → 64 < items → Refuses n m items table slots out 7 0
+  -- "5 at the lowest index of an entry with a bit at n or above"
+  entry : {i : ℕ} → LongEnough table slots out → AllowedDevice n m → items ≤ 64 → LowestWrong (EntryRight n table) (n * m) i
+      → Refuses n m items table slots out 5 i
+  -- "5 at the lowest slot whose fields break an item's limits or whose unused command bytes aren't zero"
+  slot : {i : ℕ} → LongEnough table slots out → AllowedDevice n m → items ≤ 64 → ((j : ℕ) → j < n * m → EntryRight n table j)
+      → LowestWrong (SlotRight n m table slots) items i → Refuses n m items table slots out 5 i
+
+-- "It refuses, output untouched, length 0"
+abbrev pub refusal : ℕ → ℕ → Writing
+refusal code place = record { code = code; place = place; length = 0 }
+
+-- "0, 0 | done", with the book's length
+abbrev pub written : ℕ → Writing
+written size = record { code = 0; place = 0; length = size }
+
+-- "it gives the book and its length. Bytes past it stay."
+pub record BookWritten (book out : List ℕ) (r : Writing) (out′ : List ℕ) : Type 0 where
+  pub answer : r ≡ written (length book)
+  pub front : take (length book) out′ ≡ book
+  pub kept : (i : ℕ) → length book ≤ i → getD out′ i 0 ≡ getD out i 0
+  pub size : length out′ ≡ length out
+
+-- the result r and the output out′ of writing: "Writing takes n, m, an item count, table, slots and an output buffer"
+pub data Writes (n m items : ℕ) (table slots out : List ℕ) (r : Writing) (out′ : List ℕ) : Type 0 where
+  refused : {code place : ℕ} → Refuses n m items table slots out code place → r ≡ refusal code place → out′ ≡ out
+      → Writes n m items table slots out r out′
+  done : LongEnough table slots out → Writable n m items table slots → BookWritten (bytesOf (bookFrom n m items table slots)) out r out′
+      → Writes n m items table slots out r out′

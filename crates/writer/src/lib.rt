@@ -1,0 +1,74 @@
+// Writing: the book that a table and slots hold (01, "Writing"). All is judged first; then one pass writes.
+mod checks;
+mod records;
+
+use checks::lowest_entry;
+use checks::lowest_slot;
+use records::put_book;
+ghost use mathlib.Core.Path.{_≡_};
+ghost use Rattle.writer.specs.Writes.{refusal};
+ghost use Rattle.writer.specs.Contract.{WriteAs};
+
+// What writing answers: code and place, and the book's length, 0 on a refusal.
+pub struct Writing {
+    pub code: u64,
+    pub place: u64,
+    pub length: u64,
+}
+
+// A refusal, whose length is 0.
+fn refused(code: u64, place: u64) -> Writing
+    ensures { λ r. ⌜ r ≡ refusal code place ⌝ }
+{
+    Writing {
+        code: code,
+        place: place,
+        length: 0,
+    }
+}
+
+// Writes the book at the start of `out`, or answers why there is none and leaves `out` as it was.
+pub fn write(n: u64, m: u64, items: u64, table: &[u64], slots: &[u8], out: &mut [u8]) -> Writing
+    ensures { λ r. ⌜ WriteAs n m items (now (table .entry)) (now (slots .entry)) (now (out .entry)) r (now (out .exit)) ⌝ }
+{
+    if table.len() < 2048 {
+        return refused(1, 0);
+    }
+    if slots.len() < 2176 {
+        return refused(1, 0);
+    }
+    if out.len() < 31110 {
+        return refused(1, 0);
+    }
+    if n < 1 {
+        return refused(5, 0);
+    }
+    if 64 < n {
+        return refused(5, 0);
+    }
+    if m < 1 {
+        return refused(5, 0);
+    }
+    if 32 < m {
+        return refused(5, 0);
+    }
+    if 64 < items {
+        return refused(7, 0);
+    }
+    let cells = (n * m) as usize;
+    let entry = lowest_entry(n, cells, table);
+    if entry < cells {
+        return refused(5, entry as u64);
+    }
+    let count = items as usize;
+    let slot = lowest_slot(n, m, count, slots);
+    if slot < count {
+        return refused(5, slot as u64);
+    }
+    let length = put_book(n, m, count, table, slots, out);
+    Writing {
+        code: 0,
+        place: 0,
+        length: length as u64,
+    }
+}

@@ -1,0 +1,132 @@
+// The records of a book, stored one after the other. Each function that stores records of more than one length answers the place after them.
+use crate::checks::entry_at;
+ghost use mathlib.Core.Path.{_≡_};
+ghost use Prim.Native.Nat.{_+_, _*_, _<_, _≤_, _^_};
+ghost use lib.ListN.{length, getD, drop};
+ghost use lib.Seq.{sets};
+ghost use Rattle.book.specs.Book.{bytesOf, frame, deviceRec, moveRec, itemRec};
+ghost use Rattle.book.specs.Buffers.{itemAt, bookFrom};
+ghost use Rattle.writer.specs.Records.{move, entryBytes, movesBytes, itemHead, itemTail, itemsBytes, CountsFine};
+
+// The record of the device, from 0 on.
+fn put_device(n: u64, m: u64, d: &mut [u8])
+    requires { ⌜ (n < 256) × (m < 256) ⌝ }
+    ensures { λ _. ⌜ now (d .exit) ≡ sets (now (d .entry)) 0 (frame (deviceRec n m)) ⌝ }
+{
+    num::put_le(2, 2, d, 0);
+    num::put_le(2, 1, d, 2);
+    num::put_le(1, n, d, 4);
+    num::put_le(1, m, d, 5);
+}
+
+// The record of a move, from `at` on.
+fn put_move(state: u64, command: u64, mask: u64, d: &mut [u8], at: usize)
+    requires { ⌜ (at + 14 < 2 ^ 64) × (state < 256) × (command < 256) ⌝ }
+    ensures { λ _. ⌜ now (d .exit) ≡ sets (now (d .entry)) at (frame (moveRec (move state command mask))) ⌝ }
+{
+    num::put_le(2, 10, d, at);
+    num::put_le(2, 2, d, at + 2);
+    num::put_le(1, state, d, at + 4);
+    num::put_le(1, command, d, at + 5);
+    num::put_le(8, mask, d, at + 6);
+}
+
+// The record of the table's entry i, where it is not 0.
+fn put_entry(t: &[u64], i: usize, m: u64, d: &mut [u8], at: usize) -> usize
+    requires { ⌜ (at + 14 < 2 ^ 64) × (1 ≤ m) × (m ≤ 32) × (i < 64 * m) ⌝ }
+    ensures { λ _. ⌜ now (d .exit) ≡ sets (now (d .entry)) at (entryBytes (now (t .entry)) i m) ⌝ }
+    ensures { λ r. ⌜ r ≡ at + length (entryBytes (now (t .entry)) i m) ⌝ }
+    ensures { λ r. ⌜ r ≤ at + 14 ⌝ }
+{
+    let mask = entry_at(t, i);
+    if mask == 0 {
+        return at;
+    }
+    put_move(i as u64 / m, i as u64 % m, mask, d, at);
+    at + 14
+}
+
+// The records of the first k entries.
+fn put_moves(k: usize, t: &[u64], m: u64, d: &mut [u8], at: usize) -> usize
+    requires { ⌜ (at + 14 * k < 2 ^ 63) × (1 ≤ m) × (m ≤ 32) × (k ≤ 64 * m) ⌝ }
+    ensures { λ _. ⌜ now (d .exit) ≡ sets (now (d .entry)) at (movesBytes k (now (t .entry)) 0 m) ⌝ }
+    ensures { λ r. ⌜ r ≡ at + length (movesBytes k (now (t .entry)) 0 m) ⌝ }
+    ensures { λ r. ⌜ r ≤ at + 14 * k ⌝ }
+{
+    let mut i: usize = 0;
+    let mut p = at;
+    while i < k {
+        p = put_entry(t, i, m, d, p);
+        i = i + 1;
+    }
+    p
+}
+
+// The head of an item's record and its two counts, from `at` on.
+fn put_head(k: u64, r: u64, d: &mut [u8], at: usize)
+    requires { ⌜ (k ≤ 8) × (r ≤ 8) × (at + 6 < 2 ^ 64) ⌝ }
+    ensures { λ _. ⌜ now (d .exit) ≡ sets (now (d .entry)) at (itemHead k r) ⌝ }
+{
+    num::put_le(2, 18 + k + r, d, at);
+    num::put_le(2, 3, d, at + 2);
+    num::put_le(1, k, d, at + 4);
+    num::put_le(1, r, d, at + 5);
+}
+
+// The commands and masks of the slot at q, from `at` on.
+fn put_tail(s: &[u8], q: usize, k: usize, r: usize, d: &mut [u8], at: usize)
+    requires { ⌜ (k ≤ 8) × (r ≤ 8) × (q + 34 < 2 ^ 64) × (at + 32 < 2 ^ 64) ⌝ }
+    ensures { λ _. ⌜ now (d .exit) ≡ sets (now (d .entry)) at (itemTail (now (s .entry)) q k r) ⌝ }
+{
+    num::copy(k, s, q + 2, d, at);
+    num::copy(r, s, q + 10, d, at + k);
+    num::put_le(8, num::u64_at(s, q + 18), d, at + k + r);
+    num::put_le(8, num::u64_at(s, q + 26), d, at + k + r + 8);
+}
+
+// The record of the item in the slot at q.
+fn put_item(s: &[u8], q: usize, d: &mut [u8], at: usize) -> usize
+    requires { ⌜ (getD (now s) q 0 ≤ 8) × (getD (now s) (q + 1) 0 ≤ 8) × (q + 34 ≤ length (now s)) × (at + 38 < 2 ^ 64) ⌝ }
+    ensures { λ _. ⌜ now (d .exit) ≡ sets (now (d .entry)) at (frame (itemRec (itemAt (drop q (now (s .entry)))))) ⌝ }
+    ensures { λ r. ⌜ r ≡ at + length (frame (itemRec (itemAt (drop q (now (s .entry)))))) ⌝ }
+    ensures { λ r. ⌜ r ≤ at + 38 ⌝ }
+{
+    let k = num::byte_at(s, q);
+    let r = num::byte_at(s, q + 1);
+    put_head(k, r, d, at);
+    put_tail(s, q, k as usize, r as usize, d, at + 6);
+    at + 22 + k as usize + r as usize
+}
+
+// The records of the items in the first c slots.
+fn put_items(c: usize, s: &[u8], d: &mut [u8], at: usize) -> usize
+    requires { ⌜ (at + 38 * c < 2 ^ 63) × (34 * c ≤ length (now s)) × (c ≤ 64) × CountsFine c (now s) ⌝ }
+    ensures { λ _. ⌜ now (d .exit) ≡ sets (now (d .entry)) at (itemsBytes c (now (s .entry)) 0) ⌝ }
+    ensures { λ r. ⌜ r ≡ at + length (itemsBytes c (now (s .entry)) 0) ⌝ }
+{
+    let mut i: usize = 0;
+    let mut p = at;
+    while i < c {
+        p = put_item(s, 34 * i, d, p);
+        i = i + 1;
+    }
+    p
+}
+
+// The whole book, from 0 on, once all that it takes is judged; its length.
+pub(crate) fn put_book(
+    n: u64,
+    m: u64,
+    c: usize,
+    table: &[u64],
+    slots: &[u8],
+    out: &mut [u8],
+) -> usize
+    requires { ⌜ (n ≤ 64) × (1 ≤ m) × (m ≤ 32) × (c ≤ 64) × (34 * c ≤ length (now slots)) × CountsFine c (now slots) ⌝ }
+    ensures { λ _. ⌜ now (out .exit) ≡ sets (now (out .entry)) 0 (bytesOf (bookFrom n m c (now (table .entry)) (now (slots .entry)))) ⌝ }
+    ensures { λ r. ⌜ r ≡ length (bytesOf (bookFrom n m c (now (table .entry)) (now (slots .entry)))) ⌝ }
+{
+    put_device(n, m, out);
+    let p = put_moves((n * m) as usize, table, m, out, 6);
+    put_items(c, slots, out, p)
+}

@@ -2,3 +2,4 @@ pub mod Passes
 pub mod Fits
 pub mod Choosing
 pub mod Numbers
+pub mod Walks

@@ -7,7 +7,7 @@ use lib.ListN.{getD, length}
 use lib.Seq.{sets}
 use Rattle.num.specs.Le.{piece}
 use Rattle.assembly.specs.Rules.{kAt, rAt}
-use Rattle.assembly.specs.declared.Counts.{Counts}
+use Rattle.assembly.specs.declared.chain.Counts.{Counts}
 
 -- the items from point j down, at most f of them
 unfoldable pub followed : List ℕ → List ℕ → ℕ → ℕ → List ℕ
@@ -42,7 +42,6 @@ walk slots items i = followed slots items i i
 
 pub record Walkable (slots items : List ℕ) (i : ℕ) : Type 0 where
   pub low : i ≤ 32
-  pub size : length items ≡ 33
   pub steps : Steps slots items i i
   pub short : length (planIn slots (walk slots items i)) < 65536
 

@@ -21,7 +21,7 @@ fn put_leg(legs: &mut [u8], at: usize, number: u64, upper: u64, lower: u64)
 }
 
 // Follows the items from point i down to 0; writes the reverse commands and a leg of each.
-pub(crate) fn write_chain(slots: &[u8], items: &[u8; 33], i: u64, plan: &mut [u8], legs: &mut [u8]) -> Counts
+pub(crate) fn write_chain(slots: &[u8], items: &[u8], i: u64, plan: &mut [u8], legs: &mut [u8]) -> Counts
     requires { ⌜ Walkable (now slots) (now items) i ⌝ }
     ensures { λ r. ⌜ Walked (now (slots .entry)) (now (items .entry)) i (now (plan .entry)) (now (legs .entry)) r (now (plan .exit)) (now (legs .exit)) ⌝ }
 {
@@ -29,7 +29,7 @@ pub(crate) fn write_chain(slots: &[u8], items: &[u8; 33], i: u64, plan: &mut [u8
     let mut commands: u64 = 0;
     let mut count: u64 = 0;
     while 0 < j {
-        let a = items[j as usize] as u64;
+        let a = num::byte_at(items, j as usize);
         let at = (34 * a) as usize;
         let k = num::byte_at(slots, at);
         let r = num::byte_at(slots, at + 1);

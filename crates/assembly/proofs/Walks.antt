@@ -97,7 +97,7 @@ module _ (slots items : List ℕ) where
       step-commands h a r ea er =
           let n = next (g .left) j (g .room) h in
           let e : length (planIn slots (followed slots items (g .left) j))
-                ≡ length (piece (rAt slots (at j)) slots (34 * at j + 10)) + length (planIn slots (followed slots items (n .rest) (j - down j)))
+          ≡ length (piece (rAt slots (at j)) slots (34 * at j + 10)) + length (planIn slots (followed slots items (n .rest) (j - down j)))
           = ap (λ (x : List ℕ). length (planIn slots x)) (n .chain) ∙ ap (λ (x : List ℕ). length x) (plan-cons (at j) _) ∙ length-append (piece (rAt slots (at j)) slots (34 * at j + 10)) _ in
           omega (arith, g .commands-todo, e, er, ap (rAt slots) ea, length-piece (rAt slots (at j)) slots (34 * at j + 10))
 
@@ -166,16 +166,15 @@ module _ (slots items : List ℕ) where
       pub walked-legs : j ≡ 0 → legs ≡ sets legs₀ 0 (legsIn slots i (walk slots items i))
       walked-legs z =
           sym (
-            ap (λ (x : ℕ). sets legs (3 * count) (legsIn slots x (followed slots items (g .left) x))) z
-            ∙ ap (λ (x : List ℕ). sets legs (3 * count) (legsIn slots 0 x)) (followed-none (g .left))
-            ∙ ap (sets legs (3 * count)) legs-nil ∙ sets-none legs (3 * count)
+          ap (λ (x : ℕ). sets legs (3 * count) (legsIn slots x (followed slots items (g .left) x))) z
+          ∙ ap (λ (x : List ℕ). sets legs (3 * count) (legsIn slots 0 x)) (followed-none (g .left))
+          ∙ ap (sets legs (3 * count)) legs-nil ∙ sets-none legs (3 * count)
           )
           ∙ g .legs-todo
 
       pub walked-counts : j ≡ 0 → (commands ≡ length (planIn slots (walk slots items i))) × (count ≡ length (walk slots items i))
       walked-counts z =
-          let e : followed slots items (g .left) j ≡ [] = ap (followed slots items (g .left)) z ∙ followed-none (g .left) in
-          (
+          let e : followed slots items (g .left) j ≡ [] = ap (followed slots items (g .left)) z ∙ followed-none (g .left) in (
             omega (arith, g .commands-todo, ap (λ (x : List ℕ). length (planIn slots x)) e, ap (λ (x : List ℕ). length x) plan-nil),
             omega (arith, g .count-todo, ap (λ (x : List ℕ). length x) e),
           )

@@ -2,3 +2,5 @@ pub mod Believed
 pub mod Rules
 pub mod Walk
 pub mod Walking
+pub mod Assembles
+pub mod Contract

@@ -21,7 +21,13 @@ fn put_leg(legs: &mut [u8], at: usize, number: u64, upper: u64, lower: u64)
 }
 
 // Follows the items from point i down to 0; writes the reverse commands and a leg of each.
-pub(crate) fn write_chain(slots: &[u8], items: &[u8], i: u64, plan: &mut [u8], legs: &mut [u8]) -> Counts
+pub(crate) fn write_chain(
+    slots: &[u8],
+    items: &[u8],
+    i: u64,
+    plan: &mut [u8],
+    legs: &mut [u8],
+) -> Counts
     requires { ⌜ Walkable (now slots) (now items) i ⌝ }
     ensures { λ r. ⌜ Walked (now (slots .entry)) (now (items .entry)) i (now (plan .entry)) (now (legs .entry)) r (now (plan .exit)) (now (legs .exit)) ⌝ }
 {

@@ -2,3 +2,82 @@
 mod beliefs;
 mod chain;
 mod points;
+
+use beliefs::beliefs;
+use chain::write_chain;
+use points::points_of;
+ghost use mathlib.Core.Path.{_≡_};
+ghost use Rattle.assembly.specs.Assembles.{refusal};
+ghost use Rattle.assembly.specs.Contract.{AssembleAs};
+
+// What assembling answers: the code and its place; the numbers of commands and legs, each 0 on a refusal; the fewest commands for each of the 33
+// points, 65,535 where there is no chain.
+pub struct Assembly {
+    pub code: u64,
+    pub place: u64,
+    pub commands: u64,
+    pub legs: u64,
+    pub fewest: [u16; 33],
+}
+
+// A refusal, whose counts are 0 and whose numbers are all 65,535.
+fn refused(code: u64, place: u64) -> Assembly
+    ensures { λ r. ⌜ r ≡ refusal code place ⌝ }
+{
+    Assembly {
+        code: code,
+        place: place,
+        commands: 0,
+        legs: 0,
+        fewest: [65535u16; 33],
+    }
+}
+
+// Checks the book, and writes the plan and the legs of the chain from the run's last point with the fewest commands.
+pub fn assemble(
+    book: &[u8],
+    run: &[u8],
+    table: &mut [u64],
+    slots: &mut [u8],
+    plan: &mut [u8],
+    legs: &mut [u8],
+) -> Assembly
+    ensures { λ r. ⌜ AssembleAs (now (book .entry)) (now (run .entry)) (now (table .entry)) (now (slots .entry)) (now (plan .entry)) (now (legs .entry)) r (now (table .exit)) (now (slots .exit)) (now (plan .exit)) (now (legs .exit)) ⌝ }
+{
+    if plan.len() < 256 {
+        return refused(1, 0);
+    }
+    if legs.len() < 96 {
+        return refused(1, 0);
+    }
+    let found = checker::check(book, table, slots);
+    if found.code != 0 {
+        return refused(found.code, found.place);
+    }
+    if !runs::run_fine(run, found.n, found.m) {
+        return refused(9, 0);
+    }
+    let sets = beliefs(run, table, found.n, found.m);
+    if sets[0] == 0 {
+        return refused(10, 0);
+    }
+    let i = runs::last_point(run);
+    let points = points_of(slots, found.items, run, &sets, i);
+    if points.fewest[i as usize] == 65535 {
+        return Assembly {
+            code: 11,
+            place: 0,
+            commands: 0,
+            legs: 0,
+            fewest: points.fewest,
+        };
+    }
+    let counts = write_chain(slots, &points.items, i, plan, legs);
+    Assembly {
+        code: 0,
+        place: 0,
+        commands: counts.commands,
+        legs: counts.legs,
+        fewest: points.fewest,
+    }
+}

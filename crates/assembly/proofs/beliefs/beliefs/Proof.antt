@@ -46,7 +46,7 @@ array-write-sets : tie.Need-array-write-sets Inv-loop μ-loop Inv-loop2 μ-loop2
 array-write-sets c = search needs
 
 loop-holds : tie.Need-loop-holds Inv-loop μ-loop Inv-loop2 μ-loop2
-loop-holds c = 
+loop-holds c =
     let a = c .before .before .before .before .args in
     let last-point = c .before .last-point .ensures .0 in
     forward-start (tabled (a .n) (a .m) (a .table .now)) (runOf (a .run .now)) _ (replicate 33 0) _ refl (omega (arith, c .before .before .before .before .pre .2)) (c .percept-at .ensures ∙ percept-is (a .run .now) 0 (omega arith))
@@ -91,7 +91,7 @@ loop-less : tie.Need-loop-less Inv-loop μ-loop Inv-loop2 μ-loop2
 loop-less c = omega (arith, c .before .before .before .before .before .before .loop .inv .size, c .before .before .before .before .before .before .loop .inv .few, c .before .before .before .before .before .before .loop .inv .low)
 
 loop-again : tie.Need-loop-again Inv-loop μ-loop Inv-loop2 μ-loop2
-loop-again c = 
+loop-again c =
     let a = c .before .before .before .before .before .before .before .before .before .before .before .args in
     let last-point = c .before .before .before .before .before .before .before .before .last-point .ensures .0 in
     let j = c .before .before .before .before .before .before .loop .j in
@@ -144,7 +144,7 @@ loop2-less : tie.Need-loop2-less Inv-loop μ-loop Inv-loop2 μ-loop2
 loop2-less c = omega arith
 
 loop2-again : tie.Need-loop2-again Inv-loop μ-loop Inv-loop2 μ-loop2
-loop2-again c = 
+loop2-again c =
     let a = c .before .before .before .before .before .before .before .before .before .before .before .args in
     let last-point = c .before .before .before .before .before .before .before .before .last-point .ensures .0 in
     let j = c .before .before .before .before .loop2 .j in
@@ -155,7 +155,7 @@ loop2-again c =
     ∙ before-limits (a .n) (a .m) (a .table .now) (c .before .command-at2 .result) _ _ (c .before .before .before .before .before .before .before .before .before .before .before .pre .0) (c .before .before .before .before .before .before .before .before .before .before .before .pre .1))
 
 returns : tie.Need-returns Inv-loop μ-loop Inv-loop2 μ-loop2
-returns c = 
+returns c =
     let a = c .before .before .before .before .before .before .before .before .args in
     let last-point = c .before .before .before .before .before .last-point .ensures .0 in
     backward-done (tabled (a .n) (a .m) (a .table .now)) (runOf (a .run .now)) _ (c .before .loop2 .inv) (omega arith) (last-point ∙ last-is (a .run .now))

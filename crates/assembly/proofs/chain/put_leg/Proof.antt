@@ -26,7 +26,7 @@ same-length : tie.Need-same-length
 same-length c = search needs
 
 returns : tie.Need-returns
-returns c = 
+returns c =
     let a = c .before .before .before .before .before .before .before .before .before .before .before .before .before .args in
     let p = c .before .before .before .before .before .before .before .before .before .before .before .before .before .pre in
     leg-stored (a .legs .now) (a .at) (a .number) (a .upper) (a .lower) (p .1) (p .2) (p .3) (c .before .before .before .before .before .before .before .before .before .before .put-le .ensures) (c .before .before .before .before .before .before .put-le2 .ensures) (c .before .before .put-le3 .ensures)

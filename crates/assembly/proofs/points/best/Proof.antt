@@ -60,19 +60,19 @@ loop-less : tie.Need-loop-less Inv-loop μ-loop
 loop-less c = omega arith
 
 loop-again : tie.Need-loop-again Inv-loop μ-loop
-loop-again c = 
+loop-again c =
     let a = c .before .before .before .before .before .before .args in
     let l = c .before .before .before .loop in (
       ⊎-elim
           (λ w.
           let sum =
-                via-fit (ruleIn (a .slots .now) (a .run .now) (a .sets .now) (a .count)) (a .fewest .now) (a .j) (l .a) _ _ _ (sym (c .before .fits-at .ensures) ∙ w .0 .taken) (w .1 .ensures .0) (w .2 .ensures .0) (w .4 .ensures .0) in
+          via-fit (ruleIn (a .slots .now) (a .run .now) (a .sets .now) (a .count)) (a .fewest .now) (a .j) (l .a) _ _ _ (sym (c .before .fits-at .ensures) ∙ w .0 .taken) (w .1 .ensures .0) (w .2 .ensures .0) (w .4 .ensures .0) in
           subst₂ (λ (x y : ℕ). Chosen (ruleIn (a .slots .now) (a .run .now) (a .sets .now) (a .count)) (a .fewest .now) (a .j) (l .a + 1) x y) (sym (w .6)) (sym (w .7))
           (choice-taken (ruleIn (a .slots .now) (a .run .now) (a .sets .now) (a .count)) (a .fewest .now) (a .j) (l .inv .0) _ sum (w .5 .taken)))
           (⊎-elim
           (λ w.
           let sum =
-                via-fit (ruleIn (a .slots .now) (a .run .now) (a .sets .now) (a .count)) (a .fewest .now) (a .j) (l .a) _ _ _ (sym (c .before .fits-at .ensures) ∙ w .0 .taken) (w .1 .ensures .0) (w .2 .ensures .0) (w .4 .ensures .0) in
+          via-fit (ruleIn (a .slots .now) (a .run .now) (a .sets .now) (a .count)) (a .fewest .now) (a .j) (l .a) _ _ _ (sym (c .before .fits-at .ensures) ∙ w .0 .taken) (w .1 .ensures .0) (w .2 .ensures .0) (w .4 .ensures .0) in
           subst₂ (λ (x y : ℕ). Chosen (ruleIn (a .slots .now) (a .run .now) (a .sets .now) (a .count)) (a .fewest .now) (a .j) (l .a + 1) x y) (sym (w .6)) (sym (w .7))
           (choice-kept (ruleIn (a .slots .now) (a .run .now) (a .sets .now) (a .count)) (a .fewest .now) (a .j) (l .inv .0) _ sum (w .5 .left)))
           (λ w.
@@ -83,7 +83,7 @@ loop-again c =
     )
 
 returns : tie.Need-returns Inv-loop μ-loop
-returns c = 
+returns c =
     let a = c .before .before .before .before .args in
     let done : c .before .loop .a ≡ a .count = omega (arith, c .before .loop .inv .1) in
     subst (λ (x : ℕ). Chosen (ruleIn (a .slots .now) (a .run .now) (a .sets .now) (a .count)) (a .fewest .now) (a .j) x (c .before .loop .number) (c .before .loop .item)) done (c .before .loop .inv .0)

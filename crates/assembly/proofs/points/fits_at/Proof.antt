@@ -34,7 +34,7 @@ byte-at-requires : tie.Need-byte-at-requires Inv-loop μ-loop
 byte-at-requires c κs = search needs
 
 returns : tie.Need-returns Inv-loop μ-loop
-returns c = 
+returns c =
     let a = c .before .before .before .before .args in
     let k = c .before .byte-at .ensures .0 in
     fits-short (a .slots .now) (a .run .now) (a .sets .now) (a .a) (a .j) (omega (arith, k))
@@ -58,7 +58,7 @@ command-at-requires : tie.Need-command-at-requires Inv-loop μ-loop
 command-at-requires c κs = search needs
 
 returns-2 : tie.Need-returns-2 Inv-loop μ-loop
-returns-2 c = 
+returns-2 c =
     let a = c .before .before .before .before .before .before .before .before .before .args in
     let k = c .before .before .before .before .before .before .byte-at .ensures .0 in
     same-fails (a .slots .now) (a .run .now) (a .sets .now) (a .a) (a .j) (omega (arith, k)) (c .before .before .before .before .loop .x) _ _ (omega (arith, k)) (c .before .before .byte-at2 .ensures .0) (c .before .command-at .ensures ∙ ap (λ (y : ℕ). commandOf (a .run .now) (a .j - y + c .before .before .before .before .loop .x)) k) (c .if2 .taken)
@@ -70,7 +70,7 @@ loop-less : tie.Need-loop-less Inv-loop μ-loop
 loop-less c = search needs
 
 loop-again : tie.Need-loop-again Inv-loop μ-loop
-loop-again c = 
+loop-again c =
     let a = c .before .before .before .before .before .before .before .before .before .args in
     let k = c .before .before .before .before .before .before .byte-at .ensures .0 in
     (same-next (a .slots .now) (a .run .now) (a .sets .now) (a .a) (a .j) (c .before .before .before .before .loop .x) _ _ (c .before .before .before .before .loop .inv .0) (c .before .before .byte-at2 .ensures .0) (c .before .command-at .ensures ∙ ap (λ (y : ℕ). commandOf (a .run .now) (a .j - y + c .before .before .before .before .loop .x)) k) (c .if2 .left), omega arith)
@@ -94,7 +94,7 @@ is-inside-requires : tie.Need-is-inside-requires Inv-loop μ-loop
 is-inside-requires c κs = search needs
 
 returns-3 : tie.Need-returns-3 Inv-loop μ-loop
-returns-3 c = 
+returns-3 c =
     let a = c .before .before .before .before .before .before .before .before .before .before .before .args in
     let k = c .before .before .before .before .before .before .before .before .byte-at .ensures .0 in
     upper-fails (a .slots .now) (a .run .now) (a .sets .now) (a .a) (a .j) (omega (arith, k)) (c .before .before .before .before .before .before .loop .x) (omega (arith, k, c .before .before .before .before .before .before .loop .inv .1)) (c .before .before .before .before .before .before .loop .inv .0)
@@ -119,7 +119,7 @@ is-inside-requires-2 : tie.Need-is-inside-requires-2 Inv-loop μ-loop
 is-inside-requires-2 c κs = search needs
 
 returns-4 : tie.Need-returns-4 Inv-loop μ-loop
-returns-4 c = 
+returns-4 c =
     let a = c .before .before .before .before .before .before .before .before .before .before .before .before .before .before .before .args in
     let k = c .before .before .before .before .before .before .before .before .before .before .before .before .byte-at .ensures .0 in
     lower-decides (a .slots .now) (a .run .now) (a .sets .now) (a .a) (a .j) (omega (arith, k)) (c .before .before .before .before .before .before .before .before .before .before .loop .x) (omega (arith, k, c .before .before .before .before .before .before .before .before .before .before .loop .inv .1)) (c .before .before .before .before .before .before .before .before .before .before .loop .inv .0) _

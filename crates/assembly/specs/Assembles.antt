@@ -1,0 +1,61 @@
+-- What assembling answers and leaves in the lent buffers (01, "Chains and plans" and its table of codes), for the reader.
+-- Assumes nothing: these are definitions.
+use mathlib.Core.Path.{_≡_}
+use mathlib.Core.Logic.{_⊎_}
+use mathlib.Core.List.{List, [], _∷_}
+use Prim.Native.Nat.{ℕ, _≤_, _<_}
+use lib.ListN.{length, getD, take, replicate}
+use Rattle.reversal.specs.Runs.{Run, AllowedRun}
+use Rattle.reversal.specs.Chains.{Leg, none}
+use Rattle.reversal.specs.Answers.{Answer, Answers}
+use Rattle.book.specs.Book.{Book, deviceOf}
+use Rattle.reader.specs.declared.Reading.{Reading}
+use Rattle.reader.specs.Reads.{Long, Filled}
+use Rattle.checker.specs.Checks.{AcceptedBook, Checks}
+use Rattle.runs.specs.RunBytes.{runBytes, RunFormed}
+use Rattle.assembly.specs.declared.Assembly.{Assembly}
+
+-- "Counts are 0 on refusals; the 33 numbers are all 65,535, except that 11 gives them true."
+abbrev pub refusal : ℕ → ℕ → Assembly
+refusal code place = record { code = code; place = place; commands = 0; legs = 0; fewest = replicate 33 none }
+
+-- codes 0, 10 and 11, each at place 0
+abbrev pub resultOf : Answer → Assembly
+resultOf a = record { code = a .code; place = 0; commands = a .commands; legs = a .leg-count; fewest = a .fewest }
+
+-- "Each leg is an item number, its upper point and its lower point", a byte each
+unfoldable pub legsBytes : List Leg → List ℕ
+legsBytes [] = []
+legsBytes (l ∷ ls) = l .number ∷ l .upper ∷ l .lower ∷ legsBytes ls
+
+-- "plan bytes and legs past the counts keep what they held"
+pub record Written (bytes old new : List ℕ) : Type 0 where
+  pub front : take (length bytes) new ≡ bytes
+  pub kept : (i : ℕ) → length bytes ≤ i → getD new i 0 ≡ getD old i 0
+  pub size : length new ≡ length old
+
+-- "a plan buffer (256 bytes) and 32 legs", three bytes a leg
+abbrev pub RoomShort : List ℕ → List ℕ → Type 0
+RoomShort plan legs = (length plan < 256) ⊎ (length legs < 96)
+
+abbrev pub Room : List ℕ → List ℕ → Type 0
+Room plan legs = (256 ≤ length plan) × (96 ≤ length legs)
+
+pub record Untouched (plan legs plan′ legs′ : List ℕ) : Type 0 where
+  pub plan-same : plan′ ≡ plan
+  pub legs-same : legs′ ≡ legs
+
+-- of a book, a run and the lent buffers at entry; the result r and the buffers at exit
+pub data Assembles (book run t d plan legs : List ℕ) (r : Assembly) (t′ d′ plan′ legs′ : List ℕ) : Type 0 where
+  -- "1, 0: a lent buffer shorter than stated; all untouched"
+  short : RoomShort plan legs → r ≡ refusal 1 0 → t′ ≡ t → d′ ≡ d → Untouched plan legs plan′ legs′ → Assembles book run t d plan legs r t′ d′ plan′ legs′
+  -- "then .. 8": what checking refuses, with its code and place, and table and slots as checking leaves them
+  unaccepted : Room plan legs → (c : Reading) → Checks book t d c t′ d′ → (c .code ≡ 0 → ⊥) → r ≡ refusal (c .code) (c .place) → Untouched plan legs plan′ legs′
+      → Assembles book run t d plan legs r t′ d′ plan′ legs′
+  -- "9, 0: run isn't exactly one record as above, or a command or mask is outside m or n; table and slots read"
+  faulty : Room plan legs → Long t d → (b : Book) → AcceptedBook book b → Filled b t d t′ d′ → (RunFormed (deviceOf b) run → ⊥) → r ≡ refusal 9 0
+      → Untouched plan legs plan′ legs′ → Assembles book run t d plan legs r t′ d′ plan′ legs′
+  -- "10", "11" and "0": the answer that 01 fixes for the book's device and items and the run
+  answered : Room plan legs → Long t d → (b : Book) → AcceptedBook book b → Filled b t d t′ d′
+      → (u : Run) → AllowedRun (deviceOf b) u → runBytes u ≡ run → (a : Answer) → Answers (deviceOf b) (b .items) u a → r ≡ resultOf a
+      → Written (a .plan-bytes) plan plan′ → Written (legsBytes (a .plan-legs)) legs legs′ → Assembles book run t d plan legs r t′ d′ plan′ legs′

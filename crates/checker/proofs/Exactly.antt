@@ -95,11 +95,11 @@ module _ {s t d : List ℕ} {r : Reading} {t′ d′ : List ℕ} (c : CheckAs s 
         slots = subst (SlotsRead b d) (sym (c .slots ∙ when-fine s t d _ _ l b e)) (slots-read b d a (l .1));
       }
 
-  result-short : Short t d → r ≡ refusal 1 0
+  pub result-short : Short t d → r ≡ refusal 1 0
   unfolding checkBy
   result-short h = c .result ∙ when-short s t d refusal (judgedBy refusal done) h
 
-  result-faulty : Long t d → (code place : ℕ) → parse s ≡ Refused code place → r ≡ refusal code place
+  pub result-faulty : Long t d → (code place : ℕ) → parse s ≡ Refused code place → r ≡ refusal code place
   unfolding checkBy
   result-faulty l code place e = c .result ∙ when-faulty s t d refusal (judgedBy refusal done) l code place e
 
@@ -107,10 +107,10 @@ module _ {s t d : List ℕ} {r : Reading} {t′ d′ : List ℕ} (c : CheckAs s 
   unfolding checkBy
   result-book l b e = c .result ∙ when-fine s t d refusal (judgedBy refusal done) l b e
 
-  result-wrong : Long t d → (b : Book) → parse s ≡ Ok b → wrongItem b < length (b .items) → r ≡ refusal 8 (placeOf b (wrongItem b))
+  pub result-wrong : Long t d → (b : Book) → parse s ≡ Ok b → wrongItem b < length (b .items) → r ≡ refusal 8 (placeOf b (wrongItem b))
   result-wrong l b e h = result-book l b e ∙ sym (less-yes (refusal 8 (placeOf b (wrongItem b))) (refusal 8 (placeOf b (wrongItem b))) (done b) (wrongItem b) (length (b .items)) h refl)
 
-  result-fine : Long t d → (b : Book) → parse s ≡ Ok b → length (b .items) ≤ wrongItem b → r ≡ done b
+  pub result-fine : Long t d → (b : Book) → parse s ≡ Ok b → length (b .items) ≤ wrongItem b → r ≡ done b
   result-fine l b e h = result-book l b e ∙ sym (less-no (done b) (refusal 8 (placeOf b (wrongItem b))) (done b) (wrongItem b) (length (b .items)) h refl)
 
   pub checks : Checks s t d r t′ d′

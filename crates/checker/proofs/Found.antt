@@ -39,7 +39,7 @@ module _ (b : Book) (d : List ℕ) (a : AllowedBook b) (long : 2176 ≤ length d
       let (v, e) = slot-at (deviceOf b) (b .items) (drop (length (slotsBytes (b .items))) d) (a .each-item) i l in
       (v, ap (drop (34 * i)) (slots-front b d a long) ∙ e)
 
-  allowed-item : (i : ℕ) → i < length (b .items) → AllowedItem (deviceOf b) (item (b .items) i)
+  pub allowed-item : (i : ℕ) → i < length (b .items) → AllowedItem (deviceOf b) (item (b .items) i)
   allowed-item i l = each-at (AllowedItem (deviceOf b)) (b .items) (a .each-item) i absent l
 
   pub item-is : (i : ℕ) → i < length (b .items) → itemAt (drop (34 * i) (slotsOf b d)) ≡ item (b .items) i
@@ -47,12 +47,12 @@ module _ (b : Book) (d : List ℕ) (a : AllowedBook b) (long : 2176 ≤ length d
       let (v, e) = slot-of i l in
       ap itemAt e ∙ slot-item (deviceOf b) (a .device .n-high) (item (b .items) i) v (allowed-item i l)
 
-  forward-count : (i : ℕ) → i < length (b .items) → getD (slotsOf b d) (34 * i) 0 ≡ length (item (b .items) i .forward)
+  pub forward-count : (i : ℕ) → i < length (b .items) → getD (slotsOf b d) (34 * i) 0 ≡ length (item (b .items) i .forward)
   forward-count i l =
       let (v, e) = slot-of i l in
       ap (λ (k : ℕ). getD (slotsOf b d) k 0) (sym (add-zero (34 * i))) ∙ sym (getD-drop (34 * i) (slotsOf b d) 0 0) ∙ ap (λ (t : List ℕ). getD t 0 0) e
 
-  reverse-count : (i : ℕ) → i < length (b .items) → getD (slotsOf b d) (34 * i + 1) 0 ≡ length (item (b .items) i .reverse)
+  pub reverse-count : (i : ℕ) → i < length (b .items) → getD (slotsOf b d) (34 * i + 1) 0 ≡ length (item (b .items) i .reverse)
   reverse-count i l =
       let (v, e) = slot-of i l in
       sym (getD-drop (34 * i) (slotsOf b d) 1 0) ∙ ap (λ (t : List ℕ). getD t 1 0) e

@@ -1,0 +1,82 @@
+-- For callers that go on with a book that was checked. Assumes nothing.
+use mathlib.Core.Path.{_≡_, refl, sym, ap, ap₂, _∙_}
+use mathlib.Core.List.{List}
+use Prim.Native.Nat.{ℕ, _≤_, _<_}
+use native.Mathlib.Omega.{arith}
+use native.Mathlib.Decide.{decLt}
+use lib.ListN.{length}
+use Rattle.base.proofs.Picks.{less-yes, less-no}
+use Rattle.book.specs.Book.{Book, AllowedBook, bytesOf}
+use Rattle.book.specs.Parse.{parse}
+use Rattle.book.specs.Parse.Parsed.{Ok}
+use Rattle.book.specs.Buffers.{tableOf, slotsOf}
+use Rattle.book.proofs.Reading.{parse-bytes}
+use Rattle.reader.specs.declared.Reading.{Reading}
+use Rattle.reader.specs.Reads.{done, Long}
+use Rattle.reader.proofs.Exactly.{Way, by-short, by-fault, by-book, way, when-short, when-faulty, when-fine}
+use Rattle.checker.specs.Checks.{placeOf, AcceptedBook}
+use Rattle.checker.specs.Contract.{wrongItem, judgedBy, checkBy, CheckAs}
+use Rattle.checker.proofs.Exactly.{zero↔, none-wrong, result-short, result-faulty, result-wrong, result-fine}
+
+-- a book was checked, and accepted
+pub record BookChecked (s t d : List ℕ) (r : Reading) (t′ d′ : List ℕ) : Type 0 where
+  pub book : Book
+  pub long : Long t d
+  pub parsed : parse s ≡ Ok book
+  pub accepted : AcceptedBook s book
+  pub result : r ≡ done book
+  pub table : t′ ≡ tableOf book t
+  pub slots : d′ ≡ slotsOf book d
+  pub none-is-wrong : length (book .items) ≤ wrongItem book
+
+module _ {s t d : List ℕ} {r : Reading} {t′ d′ : List ℕ} (c : CheckAs s t d r t′ d′) where
+  pub book-checked : r .code ≡ 0 → BookChecked s t d r t′ d′
+  book-checked e =
+      let (l, (b, a)) = zero↔ c .0 e in
+      let p : parse s ≡ Ok b = ap parse (sym (a .bytes)) ∙ parse-bytes b (a .allowed) in
+      let n = none-wrong b (a .allowed) (a .accepted) in
+      record {
+        book = b;
+        long = l;
+        parsed = p;
+        accepted = a;
+        result = result-fine c l b p n;
+        table = c .table ∙ when-fine s t d (λ code place. t) (λ x. tableOf x t) l b p;
+        slots = c .slots ∙ when-fine s t d (λ code place. d) (λ x. slotsOf x d) l b p;
+        none-is-wrong = n;
+      }
+
+  module _ {A : Type 0} (refuse : ℕ → ℕ → A) (fine : Book → A) where
+    -- what a caller does with it
+    pub checked-by : (g : BookChecked s t d r t′ d′) → checkBy s t d refuse fine ≡ fine (g .book)
+    unfolding checkBy
+    checked-by g =
+        when-fine s t d refuse (judgedBy refuse fine) (g .long) (g .book) (g .parsed)
+        ∙ sym (less-no (fine (g .book)) (refuse 8 (placeOf (g .book) (wrongItem (g .book)))) (fine (g .book)) (wrongItem (g .book)) (length (g .book .items)) (g .none-is-wrong) refl)
+
+    same-refusal : {code place : ℕ} → checkBy s t d refuse fine ≡ refuse code place → r .code ≡ code → r .place ≡ place
+        → checkBy s t d refuse fine ≡ refuse (r .code) (r .place)
+    same-refusal e p q = e ∙ ap₂ refuse (sym p) (sym q)
+
+    -- and where there is none
+    pub unchecked-by : (r .code ≡ 0 → ⊥) → checkBy s t d refuse fine ≡ refuse (r .code) (r .place)
+    unfolding checkBy
+    unchecked-by n = go (way s t d)
+      where
+        at : {x : Reading} → r ≡ x → (r .code ≡ x .code) × (r .place ≡ x .place)
+        at e = (ap (λ (y : Reading). y .code) e, ap (λ (y : Reading). y .place) e)
+
+        judged : Long t d → (b : Book) → parse s ≡ Ok b → Dec (wrongItem b < length (b .items)) → checkBy s t d refuse fine ≡ refuse (r .code) (r .place)
+        judged l b e (yes h) =
+            let q = at (result-wrong c l b e h) in
+            same-refusal
+            (when-fine s t d refuse (judgedBy refuse fine) l b e
+            ∙ sym (less-yes (refuse 8 (placeOf b (wrongItem b))) (refuse 8 (placeOf b (wrongItem b))) (fine b) (wrongItem b) (length (b .items)) h refl))
+            (q .0) (q .1)
+        judged l b e (no h) = absurd (n (at (result-fine c l b e (omega arith)) .0))
+
+        go : Way s t d → checkBy s t d refuse fine ≡ refuse (r .code) (r .place)
+        go (by-short h) = let q = at (result-short c h) in same-refusal (when-short s t d refuse (judgedBy refuse fine) h) (q .0) (q .1)
+        go (by-fault l code place e) =
+            let q = at (result-faulty c l code place e) in same-refusal (when-faulty s t d refuse (judgedBy refuse fine) l code place e) (q .0) (q .1)
+        go (by-book l b e) = judged l b e (decLt (wrongItem b) (length (b .items)))

@@ -6,3 +6,4 @@ pub mod Walks
 pub mod Same
 pub mod Chosen
 pub mod Book
+pub mod Answers

@@ -27,14 +27,13 @@ fn run_case(book: &[u8], run: &[u8]) {
     print_answer(r, &plan, &legs);
 }
 
-// The file's next bytes, as many as asked for or as there is room.
-fn read_part(file: i32, size: u64, buf: &mut [u8]) -> usize
+// The file's next bytes, as many as asked for or as there is room. The answer is their number.
+fn read_part(file: i32, size: u16, buf: &mut [u8]) -> usize
     ensures { λ r. ⌜ Counts r (now (buf .exit)) ⌝ }
 {
-    if (size as usize) < buf.len() {
-        return io::read_full(file, &mut buf[..size as usize]);
-    }
-    io::read_full(file, buf)
+    let wanted = io::count(size as isize, buf);
+    let got = io::read_full(file, &mut buf[..wanted]);
+    io::count(got as isize, buf)
 }
 
 // The file's next case.
@@ -43,8 +42,8 @@ fn next_case(file: i32) {
     let mut book = [0u8; 31111];
     let mut run = [0u8; 302];
     io::read_full(file, &mut sizes);
-    let book_size = read_part(file, num::u16_at(&sizes, 0), &mut book);
-    let run_size = read_part(file, num::u16_at(&sizes, 2), &mut run);
+    let book_size = read_part(file, num::u16_at(&sizes, 0) as u16, &mut book);
+    let run_size = read_part(file, num::u16_at(&sizes, 2) as u16, &mut run);
     run_case(&book[..book_size], &run[..run_size]);
 }
 

@@ -1,5 +1,13 @@
 // The roll-back plan for the book book.bin and the run run.bin in the folder where it is started.
+use assembly::Assembly;
 use libc::STDOUT_FILENO;
+
+// The program's lines on standard output.
+fn print(r: Assembly, plan: &[u8]) {
+    let mut out = [0u8; 5461];
+    let size = show::lines(&mut out, r.code, r.place, r.commands, r.legs, plan);
+    io::write_all(STDOUT_FILENO, &out[..size]);
+}
 
 fn main() {
     let mut book = [0u8; 31111];
@@ -18,7 +26,5 @@ fn main() {
         &mut plan,
         &mut legs,
     );
-    let mut out = [0u8; 5461];
-    let size = show::lines(&mut out, r.code, r.place, r.commands, r.legs, &plan);
-    io::write_all(STDOUT_FILENO, &out[..size]);
+    print(r, &plan);
 }

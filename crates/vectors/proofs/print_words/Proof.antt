@@ -5,10 +5,6 @@ use borrow.Author.Needs.{needs}
 use lib.ListN.{length}
 use Rattle.vectors.proofs.print_words.Statement.{statement}
 use Rattle.vectors.proofs.print_words.Tie as tie
-use Rattle.vectors.proofs.print_words.Reads as reads
-use Rattle.vectors.proofs.print_words.Lts as lts
-use Rattle.io.proofs.write_all.Reads as write-all-reads
-use Rattle.vectors.proofs.print_next.Reads as print-next-reads
 
 abbrev Inv-loop : tie.InvT-loop
 Inv-loop t count i₀ t4 t5 i = i ≤ length t

@@ -71,6 +71,6 @@ fn run_all(s: &[u8]) {
 
 fn main() {
     let mut file = [0u8; 400000];
-    let size = vectors::read_file(b"books.bin", &mut file);
+    let size = files::read_file(b"books.bin", &mut file);
     run_all(&file[..size]);
 }

@@ -1,22 +1,8 @@
-// What the test programs that run vector files share: a file, a part of it, and rows of numbers on standard output.
+// What the test programs that run vector files share: a part of a file, and rows of numbers on standard output.
 use libc::STDOUT_FILENO;
 ghost use mathlib.Core.Path.{_≡_};
 ghost use Prim.Native.Nat.{_≤_, min};
 ghost use lib.ListN.{length, take, drop};
-ghost use Rattle.io.specs.Counts.{Counts};
-
-// The first bytes of a file; none where it can't be read.
-pub fn read_file(path: &[u8], buf: &mut [u8]) -> usize
-    ensures { λ r. ⌜ Counts r (now (buf .exit)) ⌝ }
-{
-    let fd = os::open_read(path);
-    if fd < 0 {
-        return 0;
-    }
-    let n = io::read_full(fd, buf);
-    libc::close(fd);
-    n
-}
 
 fn least(a: usize, b: usize) -> usize
     ensures { λ r. ⌜ r ≡ min a b ⌝ }
@@ -69,6 +55,23 @@ pub fn print_bytes(s: &[u8], count: usize) -> usize
             return i;
         }
         print_next(i == 0, num::byte_at(s, i));
+        i = i + 1;
+    }
+    io::write_all(STDOUT_FILENO, b"\n");
+    i
+}
+
+// Prints the first numbers of 16 bits as a row; how many there were.
+pub fn print_words(t: &[u16], count: usize) -> usize
+    ensures { λ r. ⌜ r ≤ length (now (t .entry)) ⌝ }
+{
+    let mut i: usize = 0;
+    while i < t.len() {
+        if i == count {
+            io::write_all(STDOUT_FILENO, b"\n");
+            return i;
+        }
+        print_next(i == 0, t[i] as u64);
         i = i + 1;
     }
     io::write_all(STDOUT_FILENO, b"\n");

@@ -1,0 +1,61 @@
+// Runs the 1,626 cases of cases.bin, made by a second program, through assembling, and prints for each the answer, the plan, the legs and the 33
+// numbers, a line each.
+// A case is the book's length and the run's, two bytes each; the book; the run.
+use assembly::Assembly;
+ghost use Rattle.io.specs.Counts.{Counts};
+
+// The bytes that the legs take, at most 96.
+fn leg_bytes(legs: u64) -> usize {
+    if legs < 32 { 3 * legs as usize } else { 96 }
+}
+
+fn print_answer(r: Assembly, plan: &[u8], legs: &[u8]) {
+    let row = [r.code, r.place, r.commands, r.legs];
+    vectors::print_numbers(&row, 4);
+    vectors::print_bytes(plan, r.commands as usize);
+    vectors::print_bytes(legs, leg_bytes(r.legs));
+    vectors::print_words(&r.fewest, 33);
+}
+
+// One case, with buffers of the stated lengths.
+fn run_case(book: &[u8], run: &[u8]) {
+    let mut table = [0u64; 2048];
+    let mut slots = [0u8; 2176];
+    let mut plan = [0u8; 256];
+    let mut legs = [0u8; 96];
+    let r = assembly::assemble(book, run, &mut table, &mut slots, &mut plan, &mut legs);
+    print_answer(r, &plan, &legs);
+}
+
+// The file's next bytes, as many as asked for or as there is room. The answer is their number.
+fn read_part(file: i32, size: u16, buf: &mut [u8]) -> usize
+    ensures { λ r. ⌜ Counts r (now (buf .exit)) ⌝ }
+{
+    let wanted = io::count(size as isize, buf);
+    let got = io::read_full(file, &mut buf[..wanted]);
+    io::count(got as isize, buf)
+}
+
+// The file's next case.
+fn next_case(file: i32) {
+    let mut sizes = [0u8; 4];
+    let mut book = [0u8; 31111];
+    let mut run = [0u8; 302];
+    io::read_full(file, &mut sizes);
+    let book_size = read_part(file, num::u16_at(&sizes, 0) as u16, &mut book);
+    let run_size = read_part(file, num::u16_at(&sizes, 2) as u16, &mut run);
+    run_case(&book[..book_size], &run[..run_size]);
+}
+
+fn main() {
+    let path = b"cases.bin";
+    let file = os::open_read(path);
+    if file < 0 {
+        os::fail(path);
+        return;
+    }
+    for _ in 0..1626u64 {
+        next_case(file);
+    }
+    libc::close(file);
+}

@@ -2,16 +2,21 @@
 use mathlib.Core.Path.{_≡_, refl, sym, ap, _∙_, subst}
 use mathlib.Core.Bool.{Bool, true, false}
 use mathlib.Core.Logic.{inl, inr}
-use mathlib.Core.List.{List}
-use Prim.Native.Nat.{ℕ, _+_, _≤_, _<_}
+use mathlib.Core.List.{List, [], _∷_, _++_}
+use Prim.Native.Nat.{ℕ, _+_, _-_, _*_, _≤_, _<_}
 use native.Mathlib.Decide.{decLt}
 use native.Mathlib.Omega.{arith}
-use native.Mathlib.Nat.{add-zero}
-use lib.ListN.{length, getD, take, drop}
+use lib.Dec.{T}
+use lib.ListN.{length, getD, take, drop, length-append}
 use lib.Seq.{sets, sets-eq, take-at, getD-append-add, getD-drop, length-sets}
-use Rattle.base.proofs.Picks.{yes, no}
-use Rattle.reversal.specs.Runs.{AllowedRun}
-use Rattle.reversal.specs.Answers.{Allowed, Answer}
+use Rattle.base.specs.Lists.{Each}
+use Rattle.base.proofs.Picks as picks
+use Rattle.base.proofs.Lists.{each-at}
+use Rattle.reversal.specs.Device.{Device}
+use Rattle.reversal.specs.Reversal.{Item, AllowedItem}
+use Rattle.reversal.specs.Runs.{Run, AllowedRun, last}
+use Rattle.reversal.specs.Chains.{absent, item, lower, Chain, plan, legs, cost}
+use Rattle.reversal.specs.Answers.{Allowed, Answer, Answers, no-history, no-chain, done}
 use Rattle.reversal.proofs.Assembling.{answer-right}
 use Rattle.book.specs.Book.{Book, deviceOf}
 use Rattle.book.proofs.Device.{device-proper}
@@ -19,9 +24,8 @@ use Rattle.reader.specs.declared.Reading.{Reading}
 use Rattle.reader.specs.Reads.{Filled}
 use Rattle.reader.specs.Reads as reads
 use Rattle.checker.specs.Checks.{Checks, AcceptedBook}
-use Rattle.checker.specs.Checks as ways
 use Rattle.checker.specs.Contract.{checkBy, CheckAs}
-use Rattle.checker.proofs.Exactly.{checks}
+use Rattle.checker.proofs.Exactly.{checks, filled}
 use Rattle.checker.proofs.Onward.{BookChecked, book-checked, checked-by, unchecked-by}
 use Rattle.runs.specs.Computed.{runOf, runFaulty}
 use Rattle.runs.specs.RunBytes.{RunFormed}
@@ -35,15 +39,135 @@ use Rattle.assembly.proofs.Answers.{plan-short, legs-short, room-enough
 pub stored : (bytes old new : List ℕ) → length bytes ≤ length old → new ≡ sets old 0 bytes → Written bytes old new
 stored bytes old new l e =
     record {
-      front = ap (take (length bytes)) (e ∙ sets-eq old 0 bytes (omega arith)) ∙ take-at bytes (drop (length bytes) old) (length bytes) refl;
+      front = ap (take (length bytes)) whole ∙ take-at bytes (drop (length bytes) old) (length bytes) refl;
       kept = λ i h. kept i (i - length bytes) (omega arith);
       size = ap (λ (x : List ℕ). length x) e ∙ length-sets old 0 bytes;
     }
   where
+    whole : new ≡ bytes ++ drop (length bytes) old
+    whole = let z : 0 + length bytes ≡ length bytes = omega arith in e ∙ sets-eq bytes old 0 (omega arith) ∙ ap (λ (k : ℕ). bytes ++ drop k old) z
+
     kept : (i k : ℕ) → i ≡ length bytes + k → getD new i 0 ≡ getD old i 0
     kept i k q =
-        ap (λ (x : List ℕ). getD x i 0) (e ∙ sets-eq old 0 bytes (omega arith))
+        ap (λ (x : List ℕ). getD x i 0) whole
         ∙ ap (λ (x : ℕ). getD (bytes ++ drop (length bytes) old) x 0) q
         ∙ getD-append-add bytes (drop (length bytes) old) k 0
         ∙ getD-drop (length bytes) old k 0
         ∙ ap (λ (x : ℕ). getD old x 0) (sym q)
+
+-- ---- a chain has at most 8 commands and one item for each point passed
+module _ (d : Device) (r : Run) (items : List Item) (each : Each (AllowedItem d) items) where
+  pub chain-most : (xs : List ℕ) (j : ℕ) → Chain d r items j xs → (cost items xs ≤ 8 * j) × (length xs ≤ j)
+  chain-most [] j c = (omega arith, omega arith)
+  chain-most (a ∷ xs) j c =
+      let (p, q) = chain-most xs (lower items j a) (c .2) in
+      let x = each-at (AllowedItem d) items each a absent (c .0) in
+      (
+        omega (arith, p, length-append (item items a .reverse) (plan items xs), c .1 .room, x .some, x .reverse-most),
+        omega (arith, q, c .1 .room, x .some),
+      )
+
+pub length-legs : (items : List Item) (xs : List ℕ) (j : ℕ) → length (legsBytes (legs items j xs)) ≡ 3 * length xs
+unfolding legsBytes
+length-legs items [] j = refl
+length-legs items (a ∷ xs) j = omega (arith, length-legs items xs (lower items j a))
+
+-- what is answered fits in plan and legs
+module _ (d : Device) (items : List Item) (r : Run) (ok : Allowed d items r) where
+  pub answer-room : (a : Answer) → Answers d items r a → (length (a .plan-bytes) ≤ 256) × (length (legsBytes (a .plan-legs)) ≤ 96)
+  unfolding legsBytes
+  answer-room a (no-history n e) = rw e (omega arith, omega arith)
+  answer-room a (no-chain h u n ns q e) = rw e (omega arith, omega arith)
+  answer-room a (done h u xs best ns q e) =
+      let (p, l) = chain-most d r items (ok .each) xs (last r) (best .chain) in
+      rw e (omega (arith, ok .run .short), omega (arith, ok .run .short, length-legs items xs (last r)))
+
+-- ---- the call
+module _ {book run t d plan legs : List ℕ} {r : Assembly} {t′ d′ plan′ legs′ : List ℕ} (c : AssembleAs book run t d plan legs r t′ d′ plan′ legs′) where
+  -- checking, as far as it went
+  module _ (room : Room plan legs) where
+    abbrev f : Reading
+    f = checkBy book t d reads.refusal reads.done
+
+    checked : CheckAs book t d f t′ d′
+    checked =
+        record {
+          bytes = c .bytes;
+          result = refl;
+          table = c .table-is ∙ sym (room-enough plan legs _ _ room);
+          slots = c .slots-is ∙ sym (room-enough plan legs _ _ room);
+        }
+
+    result-is : r ≡ checkBy book t d refusal (plannedBy run refusal resultOf)
+    unfolding assembleBy
+    result-is = c .result ∙ sym (room-enough plan legs _ _ room)
+
+    plan-is : plan′ ≡ checkBy book t d (λ code place. plan) (plannedBy run (λ code place. plan) (λ a. sets plan 0 (a .plan-bytes)))
+    unfolding assembleBy
+    plan-is = c .plan-is ∙ sym (room-enough plan legs _ _ room)
+
+    legs-is : legs′ ≡ checkBy book t d (λ code place. legs) (plannedBy run (λ code place. legs) (λ a. sets legs 0 (legsBytes (a .plan-legs))))
+    unfolding assembleBy
+    legs-is = c .legs-is ∙ sym (room-enough plan legs _ _ room)
+
+    not-accepted : (f .code ≡ 0 → ⊥) → Assembles book run t d plan legs r t′ d′ plan′ legs′
+    not-accepted n =
+        unaccepted room f (checks checked) n (result-is ∙ unchecked-by checked _ _ n)
+        (record { plan-same = plan-is ∙ unchecked-by checked _ _ n; legs-same = legs-is ∙ unchecked-by checked _ _ n })
+
+    module _ (z : f .code ≡ 0) where
+      abbrev g : BookChecked book t d f t′ d′
+      g = book-checked checked z
+
+      abbrev b : Book
+      b = g .book
+
+      filled-is : Filled b t d t′ d′
+      filled-is = filled checked (g .long) b (g .accepted .allowed) (g .parsed)
+
+      run-faulty : runFaulty (b .n) (b .m) run ≡ true → Assembles book run t d plan legs r t′ d′ plan′ legs′
+      run-faulty e =
+          faulty room (g .long) b (g .accepted) filled-is (λ w. differ (sym e ∙ run-formed (deviceOf b) run (g .accepted .allowed .device .n-high) (c .run-bytes) .1 w))
+          (result-is ∙ checked-by checked _ _ g ∙ sym (picks.yes _ _ _ _ e refl))
+          (record {
+            plan-same = plan-is ∙ checked-by checked _ _ g ∙ sym (picks.yes _ _ _ _ e refl);
+            legs-same = legs-is ∙ checked-by checked _ _ g ∙ sym (picks.yes _ _ _ _ e refl);
+          })
+        where
+          differ : true ≡ false → ⊥
+          differ q = subst T q tt
+
+      run-answered : runFaulty (b .n) (b .m) run ≡ false → Assembles book run t d plan legs r t′ d′ plan′ legs′
+      run-answered e =
+          let (allowed, bytes) = run-value (deviceOf b) run (c .run-bytes) e in
+          let ok : Allowed (deviceOf b) (b .items) (runOf run) = record { device = device-proper b (g .accepted .allowed); each = g .accepted .allowed .each-item; run = allowed } in
+          let right = answer-right (deviceOf b) (b .items) (runOf run) ok in
+          let (p, l) = answer-room (deviceOf b) (b .items) (runOf run) ok (answerOf b run) right in
+          answered room (g .long) b (g .accepted) filled-is (runOf run) allowed bytes (answerOf b run) right
+          (result-is ∙ checked-by checked _ _ g ∙ sym (picks.no _ _ _ _ e refl))
+          (stored _ plan plan′ (omega (arith, room .0)) (plan-is ∙ checked-by checked _ _ g ∙ sym (picks.no _ _ _ _ e refl)))
+          (stored _ legs legs′ (omega (arith, room .1)) (legs-is ∙ checked-by checked _ _ g ∙ sym (picks.no _ _ _ _ e refl)))
+
+      on-run : (y : Bool) → runFaulty (b .n) (b .m) run ≡ y → Assembles book run t d plan legs r t′ d′ plan′ legs′
+      on-run true e = run-faulty e
+      on-run false e = run-answered e
+
+    on-code : Dec (0 < f .code) → Assembles book run t d plan legs r t′ d′ plan′ legs′
+    on-code (yes h) = not-accepted (λ e. omega arith)
+    on-code (no h) = let z : f .code ≡ 0 = omega arith in on-run z (runFaulty (b z .n) (b z .m) run) refl
+
+  -- a buffer is short
+  module _ (h : RoomShort plan legs) (e : (A : Type 0) (refuse fine : A) → refuse ≡ roomBy plan legs refuse fine) where
+    too-short : Assembles book run t d plan legs r t′ d′ plan′ legs′
+    unfolding assembleBy
+    too-short =
+        short h (c .result ∙ sym (e _ _ _)) (c .table-is ∙ sym (e _ _ _)) (c .slots-is ∙ sym (e _ _ _))
+        (record { plan-same = c .plan-is ∙ sym (e _ _ _); legs-same = c .legs-is ∙ sym (e _ _ _) })
+
+  pub assembles : Assembles book run t d plan legs r t′ d′ plan′ legs′
+  assembles = go (decLt (length plan) 256) (decLt (length legs) 96)
+    where
+      go : Dec (length plan < 256) → Dec (length legs < 96) → Assembles book run t d plan legs r t′ d′ plan′ legs′
+      go (yes h) y = too-short (inl h) (λ A x z. plan-short plan legs x z h)
+      go (no h) (yes k) = too-short (inr k) (λ A x z. legs-short plan legs x z (omega arith) k)
+      go (no h) (no k) = let room : Room plan legs = (omega arith, omega arith) in on-code room (decLt 0 (f room .code))

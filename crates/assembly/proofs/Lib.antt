@@ -7,3 +7,5 @@ pub mod Same
 pub mod Chosen
 pub mod Book
 pub mod Answers
+pub mod Exactly
+pub mod Demand

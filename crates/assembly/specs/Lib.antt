@@ -4,3 +4,4 @@ pub mod Walk
 pub mod Walking
 pub mod Assembles
 pub mod Contract
+pub mod Demand

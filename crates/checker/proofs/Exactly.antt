@@ -88,7 +88,7 @@ module _ {s t d : List ℕ} {r : Reading} {t′ d′ : List ℕ} (c : CheckAs s 
   kept-faulty l code place e =
       record { table = c .table ∙ when-faulty s t d _ _ l code place e; slots = c .slots ∙ when-faulty s t d _ _ l code place e }
 
-  filled : Long t d → (b : Book) → AllowedBook b → parse s ≡ Ok b → Filled b t d t′ d′
+  pub filled : Long t d → (b : Book) → AllowedBook b → parse s ≡ Ok b → Filled b t d t′ d′
   filled l b a e =
       record {
         table = subst (TableRead b t) (sym (c .table ∙ when-fine s t d _ _ l b e)) (table-read b t a (l .0));

@@ -27,38 +27,39 @@ pub record BookChecked (s t d : List ℕ) (r : Reading) (t′ d′ : List ℕ) :
   pub result : r ≡ done book
   pub table : t′ ≡ tableOf book t
   pub slots : d′ ≡ slotsOf book d
-  pub none-is-wrong : length (book .items) ≤ wrongItem book
+
+-- what a caller does with an accepted book
+pub accepted-by : {A : Type 0} (s t d : List ℕ) (refuse : ℕ → ℕ → A) (fine : Book → A) → Long t d → (b : Book) → AcceptedBook s b
+    → checkBy s t d refuse fine ≡ fine b
+unfolding checkBy
+accepted-by s t d refuse fine l b a =
+    when-fine s t d refuse (judgedBy refuse fine) l b (ap parse (sym (a .bytes)) ∙ parse-bytes b (a .allowed))
+    ∙ sym (less-no (fine b) (refuse 8 (placeOf b (wrongItem b))) (fine b) (wrongItem b) (length (b .items)) (none-wrong b (a .allowed) (a .accepted)) refl)
 
 module _ {s t d : List ℕ} {r : Reading} {t′ d′ : List ℕ} (c : CheckAs s t d r t′ d′) where
   pub book-checked : r .code ≡ 0 → BookChecked s t d r t′ d′
   book-checked e =
       let (l, (b, a)) = zero↔ c .0 e in
       let p : parse s ≡ Ok b = ap parse (sym (a .bytes)) ∙ parse-bytes b (a .allowed) in
-      let n = none-wrong b (a .allowed) (a .accepted) in
       record {
         book = b;
         long = l;
         parsed = p;
         accepted = a;
-        result = result-fine c l b p n;
+        result = result-fine c l b p (none-wrong b (a .allowed) (a .accepted));
         table = c .table ∙ when-fine s t d (λ code place. t) (λ x. tableOf x t) l b p;
         slots = c .slots ∙ when-fine s t d (λ code place. d) (λ x. slotsOf x d) l b p;
-        none-is-wrong = n;
       }
 
   module _ {A : Type 0} (refuse : ℕ → ℕ → A) (fine : Book → A) where
-    -- what a caller does with it
     pub checked-by : (g : BookChecked s t d r t′ d′) → checkBy s t d refuse fine ≡ fine (g .book)
-    unfolding checkBy
-    checked-by g =
-        when-fine s t d refuse (judgedBy refuse fine) (g .long) (g .book) (g .parsed)
-        ∙ sym (less-no (fine (g .book)) (refuse 8 (placeOf (g .book) (wrongItem (g .book)))) (fine (g .book)) (wrongItem (g .book)) (length (g .book .items)) (g .none-is-wrong) refl)
+    checked-by g = accepted-by s t d refuse fine (g .long) (g .book) (g .accepted)
 
     same-refusal : {code place : ℕ} → checkBy s t d refuse fine ≡ refuse code place → r .code ≡ code → r .place ≡ place
         → checkBy s t d refuse fine ≡ refuse (r .code) (r .place)
     same-refusal e p q = e ∙ ap₂ refuse (sym p) (sym q)
 
-    -- and where there is none
+    -- where there is none
     pub unchecked-by : (r .code ≡ 0 → ⊥) → checkBy s t d refuse fine ≡ refuse (r .code) (r .place)
     unfolding checkBy
     unchecked-by n = go (way s t d)

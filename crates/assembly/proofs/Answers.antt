@@ -1,25 +1,23 @@
 -- The ways through assembling, over checking's contract. Assumes nothing.
 use mathlib.Core.Path.{_≡_, refl, sym, ap, ap₂, _∙_, subst, subst₂}
 use mathlib.Core.Bool.{Bool, true, false, not}
-use mathlib.Core.List.{List, []}
+use mathlib.Core.List.{List}
 use Prim.Native.Nat.{ℕ, _*_, _≤_, _<_}
 use native.Mathlib.Omega.{arith}
 use lib.ListN.{length, getD}
 use lib.Seq.{sets}
 use Rattle.base.specs.Lists.{Each}
-use Rattle.base.specs.Tests.{pick}
 use Rattle.base.proofs.Picks.{yes, no, less-yes, less-no}
 use Rattle.reversal.specs.Device.{Device, tabled}
 use Rattle.reversal.specs.Runs.{AllowedRun, last}
 use Rattle.reversal.specs.Chains.{none, plan, legs}
-use Rattle.reversal.specs.Answers.{Answer, refused, assembled}
+use Rattle.reversal.specs.Answers.{Answer, assembled}
 use Rattle.reversal.specs.Computed.Least.{chosen}
 use Rattle.reversal.specs.Computed.Assembly.{rule}
 use Rattle.book.specs.Book.{Book, deviceOf}
-use Rattle.book.specs.Buffers.{tableOf, slotsOf}
+use Rattle.book.specs.Buffers.{slotsOf}
 use Rattle.book.proofs.Device.{tabled-device}
 use Rattle.reader.specs.declared.Reading.{Reading}
-use Rattle.reader.specs.Contract.{readBy}
 use Rattle.checker.specs.Contract.{checkBy, CheckAs}
 use Rattle.checker.proofs.Onward.{BookChecked, book-checked, checked-by, unchecked-by}
 use Rattle.runs.specs.Computed.{lastOf, runOf, runFaulty}
@@ -49,7 +47,7 @@ module _ {A : Type 0} (plan legs : List ℕ) (refuse fine : A) where
 
 -- ---- a short buffer
 module _ (book run t d plan legs : List ℕ) (h : Each (λ x. x < 256) book) (u : Each (λ x. x < 256) run)
-  (short : (A : Type 0) (refuse fine : A) → refuse ≡ roomBy plan legs refuse fine) where
+    (short : (A : Type 0) (refuse fine : A) → refuse ≡ roomBy plan legs refuse fine) where
   pub room-refused : {r : Assembly} → r ≡ refusal 1 0 → AssembleAs book run t d plan legs r t d plan legs
   unfolding assembleBy
   room-refused e =
@@ -65,12 +63,12 @@ module _ (book run t d plan legs : List ℕ) (h : Each (λ x. x < 256) book) (u 
 
 -- ---- after checking
 module _ {book t d : List ℕ} {f : Reading} {t′ d′ : List ℕ} (c : CheckAs book t d f t′ d′) (run plan legs : List ℕ) (u : Each (λ x. x < 256) run)
-  (room : Room plan legs) where
+    (room : Room plan legs) where
   -- where result, plan and legs are known, table and slots are as checking leaves them
   module _ (r : Assembly) (plan′ legs′ : List ℕ)
-    (result : r ≡ checkBy book t d refusal (plannedBy run refusal resultOf))
-    (plan-is : plan′ ≡ checkBy book t d (λ code place. plan) (plannedBy run (λ code place. plan) (λ a. sets plan 0 (a .plan-bytes))))
-    (legs-is : legs′ ≡ checkBy book t d (λ code place. legs) (plannedBy run (λ code place. legs) (λ a. sets legs 0 (legsBytes (a .plan-legs))))) where
+      (result : r ≡ checkBy book t d refusal (plannedBy run refusal resultOf))
+      (plan-is : plan′ ≡ checkBy book t d (λ code place. plan) (plannedBy run (λ code place. plan) (λ a. sets plan 0 (a .plan-bytes))))
+      (legs-is : legs′ ≡ checkBy book t d (λ code place. legs) (plannedBy run (λ code place. legs) (λ a. sets legs 0 (legsBytes (a .plan-legs))))) where
     after-check : AssembleAs book run t d plan legs r t′ d′ plan′ legs′
     unfolding assembleBy
     after-check =
@@ -116,8 +114,8 @@ module _ {book t d : List ℕ} {f : Reading} {t′ d′ : List ℕ} (c : CheckAs
 
     -- a planner's three answers, where the run is fine or not
     module _ (r : Assembly) (plan′ legs′ : List ℕ) (result : r ≡ plannedBy run refusal resultOf b)
-      (plan-is : plan′ ≡ plannedBy run (λ code place. plan) (λ a. sets plan 0 (a .plan-bytes)) b)
-      (legs-is : legs′ ≡ plannedBy run (λ code place. legs) (λ a. sets legs 0 (legsBytes (a .plan-legs))) b) where
+        (plan-is : plan′ ≡ plannedBy run (λ code place. plan) (λ a. sets plan 0 (a .plan-bytes)) b)
+        (legs-is : legs′ ≡ plannedBy run (λ code place. legs) (λ a. sets legs 0 (legsBytes (a .plan-legs))) b) where
       accepted : AssembleAs book run t d plan legs r t′ d′ plan′ legs′
       accepted =
           after-check r plan′ legs′ (result ∙ sym (checked-by c _ _ g)) (plan-is ∙ sym (checked-by c _ _ g)) (legs-is ∙ sym (checked-by c _ _ g))
@@ -164,7 +162,7 @@ module _ {book t d : List ℕ} {f : Reading} {t′ d′ : List ℕ} (c : CheckAs
         no-state s p = subst (λ (v : Assembly). AssembleAs book run t d plan legs v t′ d′ plan legs) (sym p) (answered _ (of-book.answer-10 b (g .accepted .allowed) d (g .long .1) run run-ok beliefs held s) plan legs refl refl)
 
         module _ (some : getD beliefs 0 0 ≡ 0 → ⊥) (i : ℕ) (last-point : i ≡ lastOf run) (fewest firsts : List ℕ)
-          (num : Numbered (ruleIn d′ run beliefs (f .items)) i fewest firsts) where
+            (num : Numbered (ruleIn d′ run beliefs (f .items)) i fewest firsts) where
           i-is : i ≡ last (runOf run)
           i-is = last-point ∙ last-is run
 

@@ -1,22 +1,20 @@
 -- Of a book that was read into the slots and a run that is fine: what the numbers and the walk down the items come to. Assumes nothing.
-use mathlib.Core.Path.{_≡_, refl, sym, ap, ap₂, _∙_, subst}
-use mathlib.Core.List.{List, [], _∷_, _++_}
-use mathlib.Core.Bool.{true, false}
-use Prim.Native.Nat.{ℕ, suc, _+_, _-_, _*_, _≤_, _<_}
+use mathlib.Core.Path.{_≡_, refl, sym, ap, _∙_, subst}
+use mathlib.Core.List.{List, _++_}
+use Prim.Native.Nat.{ℕ, _+_, _-_, _*_, _≤_, _<_}
 use native.Mathlib.Omega.{arith}
 use borrow.Author.Tests.{eq-eqb, ne-eqb}
-use lib.Dec.{T}
 use lib.ListN.{length, getD, take, drop, replicate, List·getD-append}
 use lib.Seq.{sets}
 use Rattle.base.specs.Tests.{pick}
 use Rattle.base.specs.Bounded.{seek}
-use Rattle.num.specs.Le.{leAt, piece}
+use Rattle.num.specs.Le.{piece}
 use Rattle.num.proofs.Put.{piece-take}
 use Rattle.reversal.specs.Device.{Device}
 use Rattle.reversal.specs.Reversal.{Item}
 use Rattle.reversal.specs.Runs.{Run, AllowedRun, last}
 use Rattle.reversal.specs.Chains.{item, none, plan, legs}
-use Rattle.reversal.specs.Answers.{Allowed, Answer, refused, assembled}
+use Rattle.reversal.specs.Answers.{Allowed, refused, assembled}
 use Rattle.reversal.specs.Computed.Beliefs.{belief}
 use Rattle.reversal.specs.Computed.Least.{Rule, Linked, total, leasts, leastAt, begins, chosen}
 use Rattle.reversal.specs.Computed.Assembly.{fits, rule, numbers, answer}

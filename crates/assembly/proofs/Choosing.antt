@@ -1,8 +1,8 @@
 -- The choice of an item at a point: each way through the loop over the items. Assumes nothing.
-use mathlib.Core.Path.{_≡_, refl, sym, ap, _∙_}
-use mathlib.Core.Bool.{Bool, true, false}
+use mathlib.Core.Path.{_≡_, refl, sym}
+use mathlib.Core.Bool.{true, false}
 use mathlib.Core.List.{List}
-use Prim.Native.Nat.{ℕ, zero, suc, _+_, _-_, _≤_, _<_, min}
+use Prim.Native.Nat.{ℕ, _+_, _-_, _≤_, _<_}
 use native.Mathlib.Numerals.{add-one}
 use native.Mathlib.Omega.{arith}
 use lib.Dec.{leb, leb→le}
@@ -12,7 +12,7 @@ use Rattle.base.specs.Bounded.{least}
 use Rattle.base.proofs.Tests.{true-T, both-l}
 use Rattle.base.proofs.Bounded.{least-le}
 use Rattle.reversal.specs.Computed.Least.{Rule, via}
-use Rattle.assembly.specs.Rules.{kAt, sameAt, fitsAt, Chosen}
+use Rattle.assembly.specs.Rules.{kAt, fitsAt, Chosen}
 
 -- an item that fits has room
 pub fits-room : (slots s sets : List ℕ) (a j : ℕ) → fitsAt slots s sets a j ≡ true → kAt slots a ≤ j

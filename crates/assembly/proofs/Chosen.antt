@@ -9,8 +9,8 @@ use Rattle.base.specs.Bounded.{seek}
 use Rattle.num.specs.Le.{piece}
 use Rattle.reversal.specs.Device.{Device}
 use Rattle.reversal.specs.Reversal.{Item}
-use Rattle.reversal.specs.Runs.{Run, last}
-use Rattle.reversal.specs.Chains.{item, lower, none, plan, legs}
+use Rattle.reversal.specs.Runs.{Run}
+use Rattle.reversal.specs.Chains.{item, none, plan, legs}
 use Rattle.reversal.specs.Computed.Least.{Rule, Linked, total, leastAt, begins, chosen}
 use Rattle.reversal.specs.Computed.Assembly.{fits, rule}
 use Rattle.reversal.proofs.Shortest.{chosen-linked, least-chain}
@@ -19,7 +19,7 @@ use Rattle.assembly.specs.Walk.{followed, Steps, planIn, legBytes, legsI
 use Rattle.assembly.specs.Assembles.{legsBytes}
 
 module _ (d : Device) (r : Run) (items : List Item) (slots : List ℕ) (k : (a : ℕ) → a < length items → kAt slots a ≡ length (item items a .forward))
-  (sound : (a j : ℕ) → a < length items → T (fits d r (item items a) j) → (0 < length (item items a .forward)) × (length (item items a .forward) ≤ j)) where
+    (sound : (a j : ℕ) → a < length items → T (fits d r (item items a) j) → (0 < length (item items a .forward)) × (length (item items a .forward) ≤ j)) where
   abbrev Q : Rule
   Q = rule d r items
 
@@ -31,8 +31,7 @@ module _ (d : Device) (r : Run) (items : List Item) (slots : List ℕ) (k : (a :
     walk-chosen zero (suc j) l b h = absurd (omega arith)
     walk-chosen (suc f) zero l b h = (refl, tt)
     walk-chosen (suc f) (suc j) l b h =
-        let rest = walk-chosen f (suc j - Q .k a) (omega (arith, fit)) (omega (arith, fit)) least in
-        (
+        let rest = walk-chosen f (suc j - Q .k a) (omega (arith, fit)) (omega (arith, fit)) least in (
           ap₂ _∷_ e (ap (followed slots firsts f) low ∙ rest .0),
           (omega (arith, down, fit), omega (arith, down, fit), subst (Steps slots firsts f) (sym low) (rest .1)),
         )

@@ -1,23 +1,19 @@
 -- Demand 3, from the contract of assembling. Assumes nothing.
-use mathlib.Core.Path.{_≡_, refl, sym, ap, ap₂, _∙_, subst}
+use mathlib.Core.Path.{_≡_, refl, sym, ap, _∙_, subst}
 use mathlib.Core.Bool.{false}
-use mathlib.Core.Logic.{_↔_, _⊎_, inl, inr}
+use mathlib.Core.Logic.{_⊎_, inl, inr}
 use mathlib.Core.List.{List}
-use Prim.Native.Nat.{ℕ, _*_, _≤_, _<_}
+use Prim.Native.Nat.{ℕ, _*_, _≤_}
 use native.Mathlib.Omega.{arith}
 use lib.ListN.{length, take}
-use Rattle.base.specs.Lists.{Each}
 use Rattle.base.proofs.Picks as picks
-use Rattle.reversal.specs.Runs.{Run, AllowedRun, last, History}
-use Rattle.reversal.specs.Chains.{Best, Chain, plan, legs, cost, LexLe, Undoes}
+use Rattle.reversal.specs.Runs.{Run, last}
+use Rattle.reversal.specs.Chains.{Best, Chain, plan, legs, Undoes}
 use Rattle.reversal.specs.Answers.{Allowed, Answer, assembled, Answers, no-history, no-chain, done, Numbers}
 use Rattle.reversal.specs.Computed.Assembly.{answer}
 use Rattle.reversal.proofs.EndToEnd.{chain-undoes}
 use Rattle.reversal.proofs.Assembling.{answer-right}
 use Rattle.book.specs.Book.{Book, deviceOf}
-use Rattle.book.specs.Parse.{parse}
-use Rattle.book.specs.Parse.Parsed.{Ok}
-use Rattle.book.proofs.Reading.{parse-bytes}
 use Rattle.book.proofs.Device.{device-proper}
 use Rattle.book.proofs.Codes.{refusal-codes}
 use Rattle.reader.specs.declared.Reading.{Reading}
@@ -25,10 +21,7 @@ use Rattle.reader.specs.Reads.{Long}
 use Rattle.reader.specs.Reads as reads
 use Rattle.checker.specs.Checks.{AcceptedBook, Checks}
 use Rattle.checker.specs.Checks as ways
-use Rattle.checker.specs.Contract.{checkBy}
-use Rattle.checker.proofs.Exactly.{none-wrong}
 use Rattle.checker.proofs.Onward.{accepted-by}
-use Rattle.runs.specs.RunBytes.{runBytes}
 use Rattle.runs.specs.Computed.{runOf, runFaulty}
 use Rattle.runs.proofs.Formed.{run-unique, run-passes}
 use Rattle.assembly.specs.declared.Assembly.{Assembly}
@@ -54,55 +47,62 @@ module _ {book run t d plan₀ legs₀ : List ℕ} {r : Assembly} {t′ d′ pla
   code-of e = ap (λ (y : Assembly). y .code) e
 
   -- ---- where all before is in order, the answer is the one for these values
-  module _ (b : Book) (u : Run) (ready : Ready book run t d plan₀ legs₀ b u) where
+  module _ (b : Book) (u : Run) (room : Room plan₀ legs₀) (long : Long t d) (given : Given book run b u) where
     ok : Allowed (deviceOf b) (b .items) u
     ok =
         record {
-          device = device-proper b (ready .given .accepted .allowed);
-          each = ready .given .accepted .allowed .each-item;
-          run = ready .given .allowed;
+          device = device-proper b (given .accepted .allowed);
+          each = given .accepted .allowed .each-item;
+          run = given .allowed;
         }
 
     small : deviceOf b .n ≤ 64
-    small = ready .given .accepted .allowed .device .n-high
+    small = given .accepted .allowed .device .n-high
 
-    right : Answers (deviceOf b) (b .items) u (answer (deviceOf b) (b .items) u)
+    pub right : Answers (deviceOf b) (b .items) u (answer (deviceOf b) (b .items) u)
     right = answer-right (deviceOf b) (b .items) u ok
 
     fine-run : runFaulty (b .n) (b .m) run ≡ false
-    fine-run = subst (λ (l : List ℕ). runFaulty (b .n) (b .m) l ≡ false) (ready .given .run-bytes) (run-passes (deviceOf b) u (ready .given .allowed) small)
+    fine-run = subst (λ (l : List ℕ). runFaulty (b .n) (b .m) l ≡ false) (given .run-bytes) (run-passes (deviceOf b) u (given .allowed) small)
 
     this-run : runOf run ≡ u
-    this-run = ap runOf (sym (ready .given .run-bytes)) ∙ run-unique (deviceOf b) u (ready .given .allowed) small
+    this-run = ap runOf (sym (given .run-bytes)) ∙ run-unique (deviceOf b) u (given .allowed) small
 
-    result-is : r ≡ resultOf (answer (deviceOf b) (b .items) u)
+    pub result-is : r ≡ resultOf (answer (deviceOf b) (b .items) u)
     unfolding assembleBy
     result-is =
-        c .result ∙ sym (room-enough plan₀ legs₀ _ _ (ready .room))
-        ∙ accepted-by book t d refusal (plannedBy run refusal resultOf) (ready .long) b (ready .given .accepted)
+        c .result ∙ sym (room-enough plan₀ legs₀ _ _ room)
+        ∙ accepted-by book t d refusal (plannedBy run refusal resultOf) long b (given .accepted)
         ∙ sym (picks.no (resultOf (answerOf b run)) (refusal 9 0) (resultOf (answerOf b run)) (runFaulty (b .n) (b .m) run) fine-run refl)
         ∙ ap (λ (v : Run). resultOf (answer (deviceOf b) (b .items) v)) this-run
 
+  module _ (b : Book) (u : Run) (ready : Ready book run t d plan₀ legs₀ b u) where
+    answers : Answers (deviceOf b) (b .items) u (answer (deviceOf b) (b .items) u)
+    answers = right b u (ready .room) (ready .long) (ready .given)
+
+    code-is : r .code ≡ answer (deviceOf b) (b .items) u .code
+    code-is = code-of (result-is b u (ready .room) (ready .long) (ready .given))
+
     pub none-then-11 : ((ys : List ℕ) → Chain (deviceOf b) u (b .items) (last u) ys → ⊥) → r .code ≡ 11
-    none-then-11 n = go right
+    none-then-11 n = go answers
       where
         go : Answers (deviceOf b) (b .items) u (answer (deviceOf b) (b .items) u) → r .code ≡ 11
         go (no-history q e) = absurd (q (ready .path) (ready .history))
-        go (no-chain h w q ns l e) = code-of result-is ∙ ap (λ (x : Answer). x .code) e
+        go (no-chain h w q ns l e) = code-is ∙ ap (λ (x : Answer). x .code) e
         go (done h w xs best ns l e) = absurd (n xs (best .chain))
 
     pub some-then-0 : (ys : List ℕ) → Chain (deviceOf b) u (b .items) (last u) ys → r .code ≡ 0
-    some-then-0 ys k = go right
+    some-then-0 ys k = go answers
       where
         go : Answers (deviceOf b) (b .items) u (answer (deviceOf b) (b .items) u) → r .code ≡ 0
         go (no-history q e) = absurd (q (ready .path) (ready .history))
         go (no-chain h w q ns l e) = absurd (q ys k)
-        go (done h w xs best ns l e) = code-of result-is ∙ ap (λ (x : Answer). x .code) e
+        go (done h w xs best ns l e) = code-is ∙ ap (λ (x : Answer). x .code) e
 
   -- ---- where the code is 0
   module _ {b : Book} {u : Run} (accepted : AcceptedBook book b) {a : Answer} (e : r ≡ resultOf a) (wp : Written (a .plan-bytes) plan₀ plan′)
-    (wl : Written (legsBytes (a .plan-legs)) legs₀ legs′) {xs ns : List ℕ} (best : Best (deviceOf b) u (b .items) xs)
-    (q : a ≡ assembled (b .items) (last u) xs ns) where
+      (wl : Written (legsBytes (a .plan-legs)) legs₀ legs′) {xs ns : List ℕ} (best : Best (deviceOf b) u (b .items) xs)
+      (q : a ≡ assembled (b .items) (last u) xs ns) where
     counted : r .commands ≡ length (plan (b .items) xs)
     counted = ap (λ (x : Assembly). x .commands) e ∙ ap (λ (x : Answer). x .commands) q
 

@@ -14,7 +14,7 @@ use Rattle.base.proofs.Picks as picks
 use Rattle.base.proofs.Lists.{each-at}
 use Rattle.reversal.specs.Device.{Device}
 use Rattle.reversal.specs.Reversal.{Item, AllowedItem}
-use Rattle.reversal.specs.Runs.{Run, AllowedRun, last}
+use Rattle.reversal.specs.Runs.{Run, last}
 use Rattle.reversal.specs.Chains.{absent, item, lower, Chain, plan, legs, cost}
 use Rattle.reversal.specs.Answers.{Allowed, Answer, Answers, no-history, no-chain, done}
 use Rattle.reversal.proofs.Assembling.{answer-right}
@@ -23,15 +23,13 @@ use Rattle.book.proofs.Device.{device-proper}
 use Rattle.reader.specs.declared.Reading.{Reading}
 use Rattle.reader.specs.Reads.{Filled}
 use Rattle.reader.specs.Reads as reads
-use Rattle.checker.specs.Checks.{Checks, AcceptedBook}
 use Rattle.checker.specs.Contract.{checkBy, CheckAs}
 use Rattle.checker.proofs.Exactly.{checks, filled}
 use Rattle.checker.proofs.Onward.{BookChecked, book-checked, checked-by, unchecked-by}
 use Rattle.runs.specs.Computed.{runOf, runFaulty}
-use Rattle.runs.specs.RunBytes.{RunFormed}
 use Rattle.runs.proofs.Formed.{run-value, run-formed}
 use Rattle.assembly.specs.declared.Assembly.{Assembly}
-use Rattle.assembly.specs.Assembles.{refusal, resultOf, legsBytes, Written, RoomShort, Room, Untouched, Assembles, short, unaccepted, faulty, answered}
+use Rattle.assembly.specs.Assembles.{refusal, resultOf, legsBytes, Written, RoomShort, Room, Assembles, short, unaccepted, faulty, answered}
 use Rattle.assembly.specs.Contract.{answerOf, plannedBy, roomBy, assembleBy, AssembleAs}
 use Rattle.assembly.proofs.Answers.{plan-short, legs-short, room-enough}
 
@@ -61,8 +59,7 @@ module _ (d : Device) (r : Run) (items : List Item) (each : Each (AllowedItem d)
   chain-most [] j c = (omega arith, omega arith)
   chain-most (a ∷ xs) j c =
       let (p, q) = chain-most xs (lower items j a) (c .2) in
-      let x = each-at (AllowedItem d) items each a absent (c .0) in
-      (
+      let x = each-at (AllowedItem d) items each a absent (c .0) in (
         omega (arith, p, length-append (item items a .reverse) (plan items xs), c .1 .room, x .some, x .reverse-most),
         omega (arith, q, c .1 .room, x .some),
       )

@@ -9,3 +9,4 @@ pub mod Book
 pub mod Answers
 pub mod Exactly
 pub mod Demand
+pub mod Cases

@@ -1,16 +1,16 @@
 -- The numbers from point 0 upward, turn by turn, and the item that begins a chain. Assumes nothing.
-use mathlib.Core.Path.{_≡_, refl, sym, ap, ap₂, _∙_, subst}
+use mathlib.Core.Path.{_≡_, refl, sym, ap, _∙_, subst}
 use mathlib.Core.Bool.{Bool, true, false}
-use mathlib.Core.List.{List, [], _∷_, _++_, append-assoc}
-use Prim.Native.Nat.{ℕ, zero, suc, _+_, _-_, _≤_, _<_, zero-le}
+use mathlib.Core.List.{List, [], _∷_, _++_}
+use Prim.Native.Nat.{ℕ, suc, _+_, _-_, _≤_, _<_, zero-le}
 use native.Mathlib.Numerals.{add-one}
 use native.Mathlib.Decide.{decLt}
 use native.Mathlib.Omega.{arith}
 use lib.Dec.{T, eqb, eqb→eq}
-use lib.ListN.{length, getD, set, replicate, length-set, List·getD-append}
+use lib.ListN.{getD, set, replicate, length-set, List·getD-append}
 use lib.Seq.{set-at, append-snoc, getD-set-same, getD-set-other}
-use Rattle.base.specs.Tests.{pick, both}
-use Rattle.base.specs.Bounded.{least, seek}
+use Rattle.base.specs.Tests.{pick}
+use Rattle.base.specs.Bounded.{seek}
 use Rattle.base.proofs.Tests.{both-l, both-r, both-of, eq-T, pick-yes, pick-no}
 use Rattle.base.proofs.Bounded.{least-same, seek-hit, seek-low}
 use Rattle.reversal.specs.Chains.{none}

@@ -1,12 +1,12 @@
 -- The rule in the slots is reversal's rule of the book's items, so that its numbers and its chosen chain are the same. Assumes nothing.
-use mathlib.Core.Path.{_≡_, refl, sym, ap, ap₂, _∙_, subst}
-use mathlib.Core.Bool.{Bool, true, false}
+use mathlib.Core.Path.{_≡_, refl, sym, ap, ap₂, _∙_}
+use mathlib.Core.Bool.{Bool, false}
 use mathlib.Core.List.{List, [], _∷_, _++_}
 use Prim.Native.Nat.{ℕ, zero, suc, _+_, _-_, _*_, _≤_, _<_}
 use native.Mathlib.Decide.{decLt}
 use native.Mathlib.Omega.{arith}
 use borrow.Author.Tests.{lt-leb}
-use lib.Dec.{T, eqb, eqb→eq, leb}
+use lib.Dec.{eqb, eqb→eq, leb}
 use lib.ListN.{length, getD, take, drop, length-take, length-drop}
 use lib.Seq.{ext-getD, getD-take, getD-drop}
 use Rattle.base.specs.Tests.{pick, both}
@@ -32,9 +32,9 @@ both-false b = refl
 
 -- ---- one item
 module _ (d : Device) (r : Run) (slots s sets : List ℕ) (x : Item) (a j : ℕ) (k : kAt slots a ≡ length (x .forward))
-  (forward : (y : ℕ) → y < kAt slots a → getD slots (34 * a + 2 + y) 0 ≡ getD (x .forward) y 0) (phi : leAt 8 slots (34 * a + 18) ≡ x .phi)
-  (psi : leAt 8 slots (34 * a + 26) ≡ x .psi) (commands : (y : ℕ) → y < last r → commandOf s y ≡ command r y)
-  (beliefs : (y : ℕ) → y ≤ last r → getD sets y 0 ≡ belief d r y) (below : j ≤ last r) where
+    (forward : (y : ℕ) → y < kAt slots a → getD slots (34 * a + 2 + y) 0 ≡ getD (x .forward) y 0) (phi : leAt 8 slots (34 * a + 18) ≡ x .phi)
+    (psi : leAt 8 slots (34 * a + 26) ≡ x .psi) (commands : (y : ℕ) → y < last r → commandOf s y ≡ command r y)
+    (beliefs : (y : ℕ) → y ≤ last r → getD sets y 0 ≡ belief d r y) (below : j ≤ last r) where
   abbrev low : ℕ
   low = j - length (x .forward)
 
@@ -75,10 +75,10 @@ module _ (d : Device) (r : Run) (slots s sets : List ℕ) (x : Item) (a j : ℕ)
     where
       go : Dec (j < kAt slots a)
           → both (leb (kAt slots a) j)
-            (both (sameAt slots s a j (kAt slots a))
-            (both (inside (getD sets j 0) (leAt 8 slots (34 * a + 18))) (inside (getD sets (j - kAt slots a) 0) (leAt 8 slots (34 * a + 26)))))
+          (both (sameAt slots s a j (kAt slots a))
+          (both (inside (getD sets j 0) (leAt 8 slots (34 * a + 18))) (inside (getD sets (j - kAt slots a) 0) (leAt 8 slots (34 * a + 26)))))
           ≡ both (leb (length (x .forward)) j)
-            (both (sameList part (x .forward)) (both (inside (belief d r j) (x .phi)) (inside (belief d r low) (x .psi))))
+          (both (sameList part (x .forward)) (both (inside (belief d r j) (x .phi)) (inside (belief d r low) (x .psi))))
       go (yes h) = rw (lt-leb (kAt slots a) j h, lt-leb (length (x .forward)) j (omega (arith, k))) (both-false _ ∙ sym (both-false _))
       go (no h) =
           ap₂ both (ap (λ (z : ℕ). leb z j) k)
@@ -88,8 +88,8 @@ module _ (d : Device) (r : Run) (slots s sets : List ℕ) (x : Item) (a j : ℕ)
 
 -- ---- all items
 module _ (d : Device) (r : Run) (items : List Item) (slots s sets : List ℕ) (k : (a : ℕ) → a < length items → kAt slots a ≡ length (item items a .forward))
-  (price : (a : ℕ) → a < length items → rAt slots a ≡ length (item items a .reverse))
-  (fit : (a j : ℕ) → a < length items → j ≤ last r → fitsAt slots s sets a j ≡ fits d r (item items a) j) where
+    (price : (a : ℕ) → a < length items → rAt slots a ≡ length (item items a .reverse))
+    (fit : (a j : ℕ) → a < length items → j ≤ last r → fitsAt slots s sets a j ≡ fits d r (item items a) j) where
   abbrev R : Rule
   R = ruleIn slots s sets (length items)
 

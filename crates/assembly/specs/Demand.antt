@@ -48,7 +48,7 @@ pub record Demand (book run t d plan legs : List ℕ) (r : Assembly) (plan′ le
   pub plan-given : r .code ≡ 0 → (b : Book) × ((u : Run) × Given book run b u × Planned b u r plan′ legs′)
   -- "'no chain' exactly when no refusal that goes before it is due, some history fits the run and no chain fits"
   pub no-chain :
-    (r .code ≡ 11) ↔ ((b : Book) × ((u : Run) × Ready book run t d plan legs b u × ((ys : List ℕ) → Chain (deviceOf b) u (b .items) (last u) ys → ⊥)))
+      (r .code ≡ 11) ↔ ((b : Book) × ((u : Run) × Ready book run t d plan legs b u × ((ys : List ℕ) → Chain (deviceOf b) u (b .items) (last u) ys → ⊥)))
   -- "where the first two hold and a chain does fit, it gives a plan"
   pub gives-plan : (b : Book) (u : Run) → Ready book run t d plan legs b u → (ys : List ℕ) → Chain (deviceOf b) u (b .items) (last u) ys → r .code ≡ 0
   -- on 0 and 11 "the fewest commands for each of the 33 points"

@@ -5,3 +5,4 @@ pub mod Walking
 pub mod Assembles
 pub mod Contract
 pub mod Demand
+pub mod Cases

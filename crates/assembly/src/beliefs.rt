@@ -1,6 +1,5 @@
 // The possible states at each point of a run.
 use states::StateSet;
-ghost use mathlib.Core.Path.{_≡_};
 ghost use Prim.Native.Nat.{_≤_};
 ghost use Rattle.reversal.specs.Device.{tabled};
 ghost use Rattle.runs.specs.Computed.{lastOf, runOf};

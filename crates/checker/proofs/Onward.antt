@@ -1,12 +1,12 @@
 -- For callers that go on with a book that was checked. Assumes nothing.
 use mathlib.Core.Path.{_≡_, refl, sym, ap, ap₂, _∙_}
 use mathlib.Core.List.{List}
-use Prim.Native.Nat.{ℕ, _≤_, _<_}
+use Prim.Native.Nat.{ℕ, _<_}
 use native.Mathlib.Omega.{arith}
 use native.Mathlib.Decide.{decLt}
 use lib.ListN.{length}
 use Rattle.base.proofs.Picks.{less-yes, less-no}
-use Rattle.book.specs.Book.{Book, AllowedBook, bytesOf}
+use Rattle.book.specs.Book.{Book}
 use Rattle.book.specs.Parse.{parse}
 use Rattle.book.specs.Parse.Parsed.{Ok}
 use Rattle.book.specs.Buffers.{tableOf, slotsOf}

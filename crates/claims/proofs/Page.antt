@@ -38,12 +38,17 @@ use Rattle.writer.proofs.RoundTrips.{writes-zero↔, write-well-formed, write-l
 use Rattle.writer.proofs.write as write
 use Rattle.writer.proofs.write.Symbol.{routine as write-routine}
 use Rattle.writer.proofs.write.Met.{met as write-met}
+use Rattle.assembly.proofs.Exactly.{assembles}
+use Rattle.assembly.proofs.Demand.{demand}
+use Rattle.assembly.proofs.assemble as assemble
+use Rattle.assembly.proofs.assemble.Symbol.{routine as assemble-routine}
+use Rattle.assembly.proofs.assemble.Met.{met as assemble-met}
 use Rattle.ridge.proofs.Answers.{looked}
 use Rattle.ridge.proofs.lookup as lookup
 use Rattle.ridge.proofs.lookup.Symbol.{routine as lookup-routine}
 use Rattle.ridge.proofs.lookup.Met.{met as lookup-met}
 use Rattle.claims.specs.Always.{Always}
-use Rattle.claims.specs.Claims.{ReadContract, Reading, ReadingZero, CheckContract, Checking, CheckingZero, CheckingEight, WriteContract, Writing, WritingZero, WellWritten, WriteBack, ReadBack, LookupContract, Lookup}
+use Rattle.claims.specs.Claims.{ReadContract, Reading, ReadingZero, CheckContract, Checking, CheckingZero, CheckingEight, WriteContract, Writing, WritingZero, WellWritten, WriteBack, ReadBack, AssembleContract, Assembling, DemandThree, LookupContract, Lookup}
 use Rattle.claims.proofs.Weaker.{weaker}
 use Rattle.claims.proofs.RoundTrips.{write-back, read-back}
 
@@ -142,6 +147,18 @@ longest bytes (b, a, e) = subst (λ (s : List ℕ). length s ≤ 31110) e (lengt
 
 pub as-long : (bytes : List ℕ) × WellFormed bytes × (length bytes ≡ 31110)
 as-long = let (b, a, e) = largest-book in (bytesOf b, (b, a, refl), e)
+
+-- ---- assembling
+
+pub assemble-contract : Always assemble.ended assemble-routine AssembleContract
+assemble-contract M = assemble-met
+
+pub assembling : Always assemble.ended assemble-routine Assembling
+assembling = weaker assemble.ended assemble-routine AssembleContract Assembling (λ κs a r e. assembles) assemble-contract
+
+-- demand 3
+pub demand-three : Always assemble.ended assemble-routine DemandThree
+demand-three = weaker assemble.ended assemble-routine AssembleContract DemandThree (λ κs a r e. demand) assemble-contract
 
 -- ---- the ridge lookup
 

@@ -18,6 +18,10 @@ use Rattle.writer.specs.declared.Writing.{Writing as WritingResult}
 use Rattle.writer.specs.Writes.{LongEnough, BookWritten, Writes}
 use Rattle.writer.specs.Contract.{WriteAs}
 use Rattle.writer.proofs.write as write
+use Rattle.assembly.specs.Assembles.{Assembles}
+use Rattle.assembly.specs.Contract.{AssembleAs}
+use Rattle.assembly.specs.Demand.{Demand}
+use Rattle.assembly.proofs.assemble as assemble
 use Rattle.ridge.specs.Lookup.{Looked, lookupOf}
 use Rattle.ridge.proofs.lookup as lookup
 use Rattle.claims.specs.Always.{After}
@@ -95,6 +99,22 @@ abbrev pub ReadBack : After read.ended
 ReadBack κs (book, (table, (slots, _))) r (_, (table′, (slots′, _))) =
     (n m items : ℕ) (t s out : List ℕ) (w : WritingResult) (out′ : List ℕ) → WriteAs n m items t s out w out′ → w .code ≡ 0
     → now book ≡ take (w .length) out′ → Long (now table) (now slots) → GivenBack n m items t s r (now table′) (now slots′)
+
+-- ---- assembling
+
+abbrev pub AssembleContract : After assemble.ended
+AssembleContract κs (book, (run, (table, (slots, (plan, (legs, _)))))) r (_, (_, (table′, (slots′, (plan′, (legs′, _)))))) =
+    AssembleAs (now book) (now run) (now table) (now slots) (now plan) (now legs) r (now table′) (now slots′) (now plan′) (now legs′)
+
+-- every code of 01's table in its order, with every buffer as stated for it
+abbrev pub Assembling : After assemble.ended
+Assembling κs (book, (run, (table, (slots, (plan, (legs, _)))))) r (_, (_, (table′, (slots′, (plan′, (legs′, _)))))) =
+    Assembles (now book) (now run) (now table) (now slots) (now plan) (now legs) r (now table′) (now slots′) (now plan′) (now legs′)
+
+-- demand 3, whole
+abbrev pub DemandThree : After assemble.ended
+DemandThree κs (book, (run, (table, (slots, (plan, (legs, _)))))) r (_, (_, (_, (_, (plan′, (legs′, _)))))) =
+    Demand (now book) (now run) (now table) (now slots) (now plan) (now legs) r (now plan′) (now legs′)
 
 -- ---- the ridge lookup
 

@@ -16,6 +16,7 @@ use Rattle.runs.specs.RunBytes.{runBytes}
 use Rattle.assembly.specs.Assembles.{resultOf}
 use Rattle.assembly.specs.Demand.{Given}
 use Rattle.assembly.specs.Cases.{BytesGive, Runs}
+use Rattle.assembly.proofs.Exactly.{even-bytes}
 use Rattle.assembly.proofs.Demand.{right, result-is}
 
 accepted-Q : AcceptedBook bytesQ bookQ
@@ -26,7 +27,7 @@ give : (u : Run) (a : Answer) → AllowedRun Q u → Gives u a → BytesGive u a
 give u a ok g =
     record {
       result-is = λ c room long.
-          result-is c bookQ u room long given ∙ ap resultOf (answers-unique (deviceOf bookQ) itemsQ u _ a (right c bookQ u room long given) (subst (λ (d : Device). Answers d itemsQ u a) (sym device-bookQ) g));
+          result-is even-bytes c bookQ u room long given ∙ ap resultOf (answers-unique (deviceOf bookQ) itemsQ u _ a (right even-bytes c bookQ u room long given) (subst (λ (d : Device). Answers d itemsQ u a) (sym device-bookQ) g));
     }
   where
     given : Given bytesQ (runBytes u) bookQ u

@@ -25,11 +25,11 @@ use Rattle.checker.proofs.Onward.{accepted-by}
 use Rattle.runs.specs.Computed.{runOf, runFaulty}
 use Rattle.runs.proofs.Formed.{run-unique, run-passes}
 use Rattle.assembly.specs.declared.Assembly.{Assembly}
-use Rattle.assembly.specs.Assembles.{refusal, resultOf, legsBytes, Written, Room, Assembles, short, unaccepted, faulty, answered}
+use Rattle.assembly.specs.Assembles.{refusal, resultOf, LegForm, Written, Room, Assembles, short, unaccepted, faulty, answered}
 use Rattle.assembly.specs.Contract.{answerOf, plannedBy, assembleBy, AssembleAs}
 use Rattle.assembly.specs.Demand.{Given, Ready, Planned, Demand}
 use Rattle.assembly.proofs.Answers.{room-enough}
-use Rattle.assembly.proofs.Exactly.{length-legs, assembles}
+use Rattle.assembly.proofs.Exactly.{Even, length-legs, assembles}
 
 -- checking has no code above 8
 check-codes : {s t d : List ℕ} {c : Reading} {t′ d′ : List ℕ} → Checks s t d c t′ d′ → c .code ≤ 8
@@ -42,12 +42,13 @@ neither : {x y : ℕ} → ((x ≡ 0) ⊎ (x ≡ 11)) → x ≡ y → (y ≡ 0 �
 neither (inl z) e n m = n (sym e ∙ z)
 neither (inr z) e n m = m (sym e ∙ z)
 
-module _ {book run t d plan₀ legs₀ : List ℕ} {r : Assembly} {t′ d′ plan′ legs′ : List ℕ} (c : AssembleAs book run t d plan₀ legs₀ r t′ d′ plan′ legs′) where
+module _ {E : Type 0} {form : LegForm E} (even : Even form) {book run t d plan₀ : List ℕ} {legs₀ : List E} {r : Assembly} {t′ d′ plan′ : List ℕ} {legs′ : List E}
+    (c : AssembleAs form book run t d plan₀ legs₀ r t′ d′ plan′ legs′) where
   code-of : {x : Assembly} → r ≡ x → r .code ≡ x .code
   code-of e = ap (λ (y : Assembly). y .code) e
 
   -- ---- where all before is in order, the answer is the one for these values
-  module _ (b : Book) (u : Run) (room : Room plan₀ legs₀) (long : Long t d) (given : Given book run b u) where
+  module _ (b : Book) (u : Run) (room : Room form plan₀ legs₀) (long : Long t d) (given : Given book run b u) where
     ok : Allowed (deviceOf b) (b .items) u
     ok =
         record {
@@ -71,12 +72,12 @@ module _ {book run t d plan₀ legs₀ : List ℕ} {r : Assembly} {t′ d′ pla
     pub result-is : r ≡ resultOf (answer (deviceOf b) (b .items) u)
     unfolding assembleBy
     result-is =
-        c .result ∙ sym (room-enough plan₀ legs₀ _ _ room)
+        c .result ∙ sym (room-enough form plan₀ legs₀ _ _ room)
         ∙ accepted-by book t d refusal (plannedBy run refusal resultOf) long b (given .accepted)
         ∙ sym (picks.no (resultOf (answerOf b run)) (refusal 9 0) (resultOf (answerOf b run)) (runFaulty (b .n) (b .m) run) fine-run refl)
         ∙ ap (λ (v : Run). resultOf (answer (deviceOf b) (b .items) v)) this-run
 
-  module _ (b : Book) (u : Run) (ready : Ready book run t d plan₀ legs₀ b u) where
+  module _ (b : Book) (u : Run) (ready : Ready form book run t d plan₀ legs₀ b u) where
     answers : Answers (deviceOf b) (b .items) u (answer (deviceOf b) (b .items) u)
     answers = right b u (ready .room) (ready .long) (ready .given)
 
@@ -101,7 +102,7 @@ module _ {book run t d plan₀ legs₀ : List ℕ} {r : Assembly} {t′ d′ pla
 
   -- ---- where the code is 0
   module _ {b : Book} {u : Run} (accepted : AcceptedBook book b) {a : Answer} (e : r ≡ resultOf a) (wp : Written (a .plan-bytes) plan₀ plan′)
-      (wl : Written (legsBytes (a .plan-legs)) legs₀ legs′) {xs ns : List ℕ} (best : Best (deviceOf b) u (b .items) xs)
+      (wl : Written (form .held (a .plan-legs)) legs₀ legs′) {xs ns : List ℕ} (best : Best (deviceOf b) u (b .items) xs)
       (q : a ≡ assembled (b .items) (last u) xs ns) where
     counted : r .commands ≡ length (plan (b .items) xs)
     counted = ap (λ (x : Assembly). x .commands) e ∙ ap (λ (x : Answer). x .commands) q
@@ -113,13 +114,14 @@ module _ {book run t d plan₀ legs₀ : List ℕ} {r : Assembly} {t′ d′ pla
     plan-written =
         ap (λ (n : ℕ). take n plan′) (counted ∙ sym (ap (λ (x : Answer). length (x .plan-bytes)) q)) ∙ wp .front ∙ ap (λ (x : Answer). x .plan-bytes) q
 
-    legs-written : take (3 * r .legs) legs′ ≡ legsBytes (legs (b .items) (last u) xs)
+    legs-written : take (form .width * r .legs) legs′ ≡ form .held (legs (b .items) (last u) xs)
     legs-written =
         ap (λ (n : ℕ). take n legs′)
-        (ap (λ (n : ℕ). 3 * n) legs-counted ∙ sym (length-legs (b .items) xs (last u)) ∙ sym (ap (λ (x : Answer). length (legsBytes (x .plan-legs))) q))
-        ∙ wl .front ∙ ap (λ (x : Answer). legsBytes (x .plan-legs)) q
+        (ap (λ (n : ℕ). form .width * n) (legs-counted ∙ sym (length-legs (b .items) xs (last u))) ∙ sym (even (legs (b .items) (last u) xs))
+        ∙ sym (ap (λ (x : Answer). length (form .held (x .plan-legs))) q))
+        ∙ wl .front ∙ ap (λ (x : Answer). form .held (x .plan-legs)) q
 
-    planned : Planned b u r plan′ legs′
+    planned : Planned form b u r plan′ legs′
     planned =
         record {
           items = xs;
@@ -133,7 +135,7 @@ module _ {book run t d plan₀ legs₀ : List ℕ} {r : Assembly} {t′ d′ pla
           lowest = λ ys k same. best .lowest ys k (same ∙ counted);
         }
 
-  given-plan : r .code ≡ 0 → Assembles book run t d plan₀ legs₀ r t′ d′ plan′ legs′ → (b : Book) × ((u : Run) × Given book run b u × Planned b u r plan′ legs′)
+  given-plan : r .code ≡ 0 → Assembles form book run t d plan₀ legs₀ r t′ d′ plan′ legs′ → (b : Book) × ((u : Run) × Given book run b u × Planned form b u r plan′ legs′)
   given-plan z (short h e k l w) = absurd (omega (arith, code-of e))
   given-plan z (unaccepted room cc ck n e w) = absurd (n (sym (code-of e) ∙ z))
   given-plan z (faulty room l b a k n e w) = absurd (omega (arith, code-of e))
@@ -142,8 +144,8 @@ module _ {book run t d plan₀ legs₀ : List ℕ} {r : Assembly} {t′ d′ pla
   given-plan z (answered room l b a k u al ub an (done h w xs best ns m q) e wp wl) =
       (b, (u, record { accepted = a; allowed = al; run-bytes = ub }, planned a e wp wl best q))
 
-  none-given : r .code ≡ 11 → Assembles book run t d plan₀ legs₀ r t′ d′ plan′ legs′
-      → (b : Book) × ((u : Run) × Ready book run t d plan₀ legs₀ b u × ((ys : List ℕ) → Chain (deviceOf b) u (b .items) (last u) ys → ⊥))
+  none-given : r .code ≡ 11 → Assembles form book run t d plan₀ legs₀ r t′ d′ plan′ legs′
+      → (b : Book) × ((u : Run) × Ready form book run t d plan₀ legs₀ b u × ((ys : List ℕ) → Chain (deviceOf b) u (b .items) (last u) ys → ⊥))
   none-given z (short h e k l w) = absurd (omega (arith, code-of e))
   none-given z (unaccepted room cc ck n e w) = absurd (omega (arith, code-of e, check-codes ck))
   none-given z (faulty room l b a k n e w) = absurd (omega (arith, code-of e))
@@ -152,7 +154,7 @@ module _ {book run t d plan₀ legs₀ : List ℕ} {r : Assembly} {t′ d′ pla
       (b, (u, record { room = room; long = l; given = record { accepted = a; allowed = al; run-bytes = ub }; path = h; history = w }, n))
   none-given z (answered room l b a k u al ub an (done h w xs best ns m q) e wp wl) = absurd (omega (arith, code-of e, ap (λ (x : Answer). x .code) q))
 
-  numbers-of : ((r .code ≡ 0) ⊎ (r .code ≡ 11)) → Assembles book run t d plan₀ legs₀ r t′ d′ plan′ legs′
+  numbers-of : ((r .code ≡ 0) ⊎ (r .code ≡ 11)) → Assembles form book run t d plan₀ legs₀ r t′ d′ plan′ legs′
       → (b : Book) × ((u : Run) × Given book run b u × Numbers (deviceOf b) u (b .items) (r .fewest))
   numbers-of z (short h e k l w) = absurd (neither z (code-of e) (λ q. omega arith) (λ q. omega arith))
   numbers-of z (unaccepted room cc ck n e w) = absurd (neither z (code-of e) n (λ q. omega (arith, check-codes ck)))
@@ -164,11 +166,11 @@ module _ {book run t d plan₀ legs₀ : List ℕ} {r : Assembly} {t′ d′ pla
   numbers-of z (answered room l b a k u al ub an (done h w xs best ns m q) e wp wl) =
       (b, (u, record { accepted = a; allowed = al; run-bytes = ub }, subst (Numbers (deviceOf b) u (b .items)) (sym (ap (λ (x : Assembly). x .fewest) e ∙ ap (λ (x : Answer). x .fewest) q)) m))
 
-  pub demand : Demand book run t d plan₀ legs₀ r plan′ legs′
+  pub demand : Demand form book run t d plan₀ legs₀ r plan′ legs′
   demand =
       record {
-        plan-given = λ z. given-plan z (assembles c);
-        no-chain = ((λ z. none-given z (assembles c)), λ (b, (u, ready, n)). none-then-11 b u ready n);
+        plan-given = λ z. given-plan z (assembles even c);
+        no-chain = ((λ z. none-given z (assembles even c)), λ (b, (u, ready, n)). none-then-11 b u ready n);
         gives-plan = λ b u ready ys k. some-then-0 b u ready ys k;
-        numbers = λ z. numbers-of z (assembles c);
+        numbers = λ z. numbers-of z (assembles even c);
       }

@@ -1,10 +1,11 @@
 -- The contract of assembling gives what 01 says, of books, runs, histories and chains. Assumes nothing.
-use mathlib.Core.Path.{_≡_, refl, sym, ap, _∙_, subst}
+use mathlib.Core.Path.{_≡_, refl, sym, ap, _∙_, subst, subst₂}
 use mathlib.Core.Bool.{Bool, true, false}
 use mathlib.Core.Logic.{inl, inr}
 use mathlib.Core.List.{List, [], _∷_, _++_}
 use Prim.Native.Nat.{ℕ, _+_, _-_, _*_, _≤_, _<_}
 use native.Mathlib.Decide.{decLt}
+use native.Mathlib.Nat.{le-trans, mul-comm, mul-le-mul-left}
 use native.Mathlib.Omega.{arith}
 use lib.Dec.{T}
 use lib.ListN.{length, getD, take, drop, length-append}
@@ -15,7 +16,7 @@ use Rattle.base.proofs.Lists.{each-at}
 use Rattle.reversal.specs.Device.{Device}
 use Rattle.reversal.specs.Reversal.{Item, AllowedItem}
 use Rattle.reversal.specs.Runs.{Run, last}
-use Rattle.reversal.specs.Chains.{absent, item, lower, Chain, plan, legs, cost}
+use Rattle.reversal.specs.Chains.{Leg, absent, item, lower, Chain, plan, legs, cost}
 use Rattle.reversal.specs.Answers.{Allowed, Answer, Answers, no-history, no-chain, done}
 use Rattle.reversal.proofs.Assembling.{answer-right}
 use Rattle.book.specs.Book.{Book, deviceOf}
@@ -29,29 +30,29 @@ use Rattle.checker.proofs.Onward.{BookChecked, book-checked, checked-by, unchec
 use Rattle.runs.specs.Computed.{runOf, runFaulty}
 use Rattle.runs.proofs.Formed.{run-value, run-formed}
 use Rattle.assembly.specs.declared.Assembly.{Assembly}
-use Rattle.assembly.specs.Assembles.{refusal, resultOf, legsBytes, Written, RoomShort, Room, Assembles, short, unaccepted, faulty, answered}
+use Rattle.assembly.specs.Assembles.{refusal, resultOf, legsBytes, LegForm, inBytes, Written, RoomShort, Room, Assembles, short, unaccepted, faulty, answered}
 use Rattle.assembly.specs.Contract.{answerOf, plannedBy, roomBy, assembleBy, AssembleAs}
-use Rattle.assembly.proofs.Answers.{plan-short, legs-short, room-enough}
+use Rattle.assembly.proofs.Answers.{either-short, room-enough}
 
 -- ---- a row stored at the start of a buffer that has room for it
-pub stored : (bytes old new : List ℕ) → length bytes ≤ length old → new ≡ sets old 0 bytes → Written bytes old new
-stored bytes old new l e =
+pub stored : {E : Type 0} (bytes old new : List E) → length bytes ≤ length old → new ≡ sets old 0 bytes → Written bytes old new
+stored {E} bytes old new l e =
     record {
       front = ap (take (length bytes)) whole ∙ take-at bytes (drop (length bytes) old) (length bytes) refl;
-      kept = λ i h. kept i (i - length bytes) (omega arith);
-      size = ap (λ (x : List ℕ). length x) e ∙ length-sets old 0 bytes;
+      kept = λ i z h. kept i (i - length bytes) (omega arith) z;
+      size = ap (λ (x : List E). length x) e ∙ length-sets old 0 bytes;
     }
   where
     whole : new ≡ bytes ++ drop (length bytes) old
     whole = let z : 0 + length bytes ≡ length bytes = omega arith in e ∙ sets-eq bytes old 0 (omega arith) ∙ ap (λ (k : ℕ). bytes ++ drop k old) z
 
-    kept : (i k : ℕ) → i ≡ length bytes + k → getD new i 0 ≡ getD old i 0
-    kept i k q =
-        ap (λ (x : List ℕ). getD x i 0) whole
-        ∙ ap (λ (x : ℕ). getD (bytes ++ drop (length bytes) old) x 0) q
-        ∙ getD-append-add bytes (drop (length bytes) old) k 0
-        ∙ getD-drop (length bytes) old k 0
-        ∙ ap (λ (x : ℕ). getD old x 0) (sym q)
+    kept : (i k : ℕ) → i ≡ length bytes + k → (z : E) → getD new i z ≡ getD old i z
+    kept i k q z =
+        ap (λ (x : List E). getD x i z) whole
+        ∙ ap (λ (x : ℕ). getD (bytes ++ drop (length bytes) old) x z) q
+        ∙ getD-append-add bytes (drop (length bytes) old) k z
+        ∙ getD-drop (length bytes) old k z
+        ∙ ap (λ (x : ℕ). getD old x z) (sym q)
 
 -- ---- a chain has at most 8 commands and one item for each point passed
 module _ (d : Device) (r : Run) (items : List Item) (each : Each (AllowedItem d) items) where
@@ -64,25 +65,46 @@ module _ (d : Device) (r : Run) (items : List Item) (each : Each (AllowedItem d)
         omega (arith, q, c .1 .room, x .some),
       )
 
-pub length-legs : (items : List Item) (xs : List ℕ) (j : ℕ) → length (legsBytes (legs items j xs)) ≡ 3 * length xs
-unfolding legsBytes
+pub length-legs : (items : List Item) (xs : List ℕ) (j : ℕ) → length (legs items j xs) ≡ length xs
 length-legs items [] j = refl
 length-legs items (a ∷ xs) j = omega (arith, length-legs items xs (lower items j a))
 
+-- ---- a form holds each leg in as many elements
+abbrev pub Even : {E : Type 0} → LegForm E → Type 0
+Even form = (ls : List Leg) → length (form .held ls) ≡ form .width * length ls
+
+pub even-bytes : Even inBytes
+unfolding legsBytes
+even-bytes [] = refl
+even-bytes (l ∷ ls) = omega (arith, even-bytes ls)
+
 -- what is answered fits in plan and legs
+pub record Small (a : Answer) : Type 0 where
+  pub plan-small : length (a .plan-bytes) ≤ 256
+  pub legs-small : length (a .plan-legs) ≤ 32
+  pub legs-counted : length (a .plan-legs) ≡ a .leg-count
+
 module _ (d : Device) (items : List Item) (r : Run) (ok : Allowed d items r) where
-  pub answer-room : (a : Answer) → Answers d items r a → (length (a .plan-bytes) ≤ 256) × (length (legsBytes (a .plan-legs)) ≤ 96)
-  unfolding legsBytes
-  answer-room a (no-history n e) = rw e (omega arith, omega arith)
-  answer-room a (no-chain h u n ns q e) = rw e (omega arith, omega arith)
-  answer-room a (done h u xs best ns q e) =
+  pub answer-small : (a : Answer) → Answers d items r a → Small a
+  answer-small a (no-history n e) = rw e (record { plan-small = omega arith; legs-small = omega arith; legs-counted = refl })
+  answer-small a (no-chain h u n ns q e) = rw e (record { plan-small = omega arith; legs-small = omega arith; legs-counted = refl })
+  answer-small a (done h u xs best ns q e) =
       let (p, l) = chain-most d r items (ok .each) xs (last r) (best .chain) in
-      rw e (omega (arith, ok .run .short), omega (arith, ok .run .short, length-legs items xs (last r)))
+      rw e (record { plan-small = omega (arith, ok .run .short); legs-small = omega (arith, ok .run .short, length-legs items xs (last r)); legs-counted = length-legs items xs (last r) })
+
+held-small : {E : Type 0} (form : LegForm E) → Even form → (ls : List Leg) → length ls ≤ 32 → length (form .held ls) ≤ 32 * form .width
+held-small form even ls l = subst₂ (λ (x y : ℕ). x ≤ y) (sym (even ls)) (mul-comm (form .width) 32) (mul-le-mul-left (form .width) l)
+
+-- what a call comes to: one refusal or one answer
+pub data Outcome {E : Type 0} (form : LegForm E) (book run t d plan : List ℕ) (legs : List E) : Type 1 where
+  refused : (code place : ℕ) → ((A : Type 0) (refuse : ℕ → ℕ → A) (fine : Answer → A) → assembleBy form book run t d plan legs refuse fine ≡ refuse code place) → Outcome form book run t d plan legs
+  given : (a : Answer) → Small a → ((A : Type 0) (refuse : ℕ → ℕ → A) (fine : Answer → A) → assembleBy form book run t d plan legs refuse fine ≡ fine a) → Outcome form book run t d plan legs
 
 -- ---- the call
-module _ {book run t d plan legs : List ℕ} {r : Assembly} {t′ d′ plan′ legs′ : List ℕ} (c : AssembleAs book run t d plan legs r t′ d′ plan′ legs′) where
+module _ {E : Type 0} {form : LegForm E} (even : Even form) {book run t d plan : List ℕ} {legs : List E} {r : Assembly} {t′ d′ plan′ : List ℕ} {legs′ : List E}
+    (c : AssembleAs form book run t d plan legs r t′ d′ plan′ legs′) where
   -- checking, as far as it went
-  module _ (room : Room plan legs) where
+  module _ (room : Room form plan legs) where
     abbrev f : Reading
     f = checkBy book t d reads.refusal reads.done
 
@@ -91,23 +113,23 @@ module _ {book run t d plan legs : List ℕ} {r : Assembly} {t′ d′ plan′ l
         record {
           bytes = c .bytes;
           result = refl;
-          table = c .table-is ∙ sym (room-enough plan legs _ _ room);
-          slots = c .slots-is ∙ sym (room-enough plan legs _ _ room);
+          table = c .table-is ∙ sym (room-enough form plan legs _ _ room);
+          slots = c .slots-is ∙ sym (room-enough form plan legs _ _ room);
         }
 
     result-is : r ≡ checkBy book t d refusal (plannedBy run refusal resultOf)
     unfolding assembleBy
-    result-is = c .result ∙ sym (room-enough plan legs _ _ room)
+    result-is = c .result ∙ sym (room-enough form plan legs _ _ room)
 
     plan-is : plan′ ≡ checkBy book t d (λ code place. plan) (plannedBy run (λ code place. plan) (λ a. sets plan 0 (a .plan-bytes)))
     unfolding assembleBy
-    plan-is = c .plan-is ∙ sym (room-enough plan legs _ _ room)
+    plan-is = c .plan-is ∙ sym (room-enough form plan legs _ _ room)
 
-    legs-is : legs′ ≡ checkBy book t d (λ code place. legs) (plannedBy run (λ code place. legs) (λ a. sets legs 0 (legsBytes (a .plan-legs))))
+    legs-is : legs′ ≡ checkBy book t d (λ code place. legs) (plannedBy run (λ code place. legs) (λ a. sets legs 0 (form .held (a .plan-legs))))
     unfolding assembleBy
-    legs-is = c .legs-is ∙ sym (room-enough plan legs _ _ room)
+    legs-is = c .legs-is ∙ sym (room-enough form plan legs _ _ room)
 
-    not-accepted : (f .code ≡ 0 → ⊥) → Assembles book run t d plan legs r t′ d′ plan′ legs′
+    not-accepted : (f .code ≡ 0 → ⊥) → Assembles form book run t d plan legs r t′ d′ plan′ legs′
     not-accepted n =
         unaccepted room f (checks checked) n (result-is ∙ unchecked-by checked _ _ n)
         (record { plan-same = plan-is ∙ unchecked-by checked _ _ n; legs-same = legs-is ∙ unchecked-by checked _ _ n })
@@ -122,7 +144,7 @@ module _ {book run t d plan legs : List ℕ} {r : Assembly} {t′ d′ plan′ l
       filled-is : Filled b t d t′ d′
       filled-is = filled checked (g .long) b (g .accepted .allowed) (g .parsed)
 
-      run-faulty : runFaulty (b .n) (b .m) run ≡ true → Assembles book run t d plan legs r t′ d′ plan′ legs′
+      run-faulty : runFaulty (b .n) (b .m) run ≡ true → Assembles form book run t d plan legs r t′ d′ plan′ legs′
       run-faulty e =
           faulty room (g .long) b (g .accepted) filled-is (λ w. differ (sym e ∙ run-formed (deviceOf b) run (g .accepted .allowed .device .n-high) (c .run-bytes) .1 w))
           (result-is ∙ checked-by checked _ _ g ∙ sym (picks.yes _ _ _ _ e refl))
@@ -134,37 +156,70 @@ module _ {book run t d plan legs : List ℕ} {r : Assembly} {t′ d′ plan′ l
           differ : true ≡ false → ⊥
           differ q = subst T q tt
 
-      run-answered : runFaulty (b .n) (b .m) run ≡ false → Assembles book run t d plan legs r t′ d′ plan′ legs′
+      run-answered : runFaulty (b .n) (b .m) run ≡ false → Assembles form book run t d plan legs r t′ d′ plan′ legs′
       run-answered e =
           let (allowed, bytes) = run-value (deviceOf b) run (c .run-bytes) e in
           let ok : Allowed (deviceOf b) (b .items) (runOf run) = record { device = device-proper b (g .accepted .allowed); each = g .accepted .allowed .each-item; run = allowed } in
           let right = answer-right (deviceOf b) (b .items) (runOf run) ok in
-          let (p, l) = answer-room (deviceOf b) (b .items) (runOf run) ok (answerOf b run) right in
+          let small = answer-small (deviceOf b) (b .items) (runOf run) ok (answerOf b run) right in
           answered room (g .long) b (g .accepted) filled-is (runOf run) allowed bytes (answerOf b run) right
           (result-is ∙ checked-by checked _ _ g ∙ sym (picks.no _ _ _ _ e refl))
-          (stored _ plan plan′ (omega (arith, room .0)) (plan-is ∙ checked-by checked _ _ g ∙ sym (picks.no _ _ _ _ e refl)))
-          (stored _ legs legs′ (omega (arith, room .1)) (legs-is ∙ checked-by checked _ _ g ∙ sym (picks.no _ _ _ _ e refl)))
+          (stored _ plan plan′ (omega (arith, room .0, small .plan-small)) (plan-is ∙ checked-by checked _ _ g ∙ sym (picks.no _ _ _ _ e refl)))
+          (stored _ legs legs′ (le-trans (held-small form even _ (small .legs-small)) (room .1)) (legs-is ∙ checked-by checked _ _ g ∙ sym (picks.no _ _ _ _ e refl)))
 
-      on-run : (y : Bool) → runFaulty (b .n) (b .m) run ≡ y → Assembles book run t d plan legs r t′ d′ plan′ legs′
+      on-run : (y : Bool) → runFaulty (b .n) (b .m) run ≡ y → Assembles form book run t d plan legs r t′ d′ plan′ legs′
       on-run true e = run-faulty e
       on-run false e = run-answered e
 
-    on-code : Dec (0 < f .code) → Assembles book run t d plan legs r t′ d′ plan′ legs′
+    on-code : Dec (0 < f .code) → Assembles form book run t d plan legs r t′ d′ plan′ legs′
     on-code (yes h) = not-accepted (λ e. omega arith)
     on-code (no h) = let z : f .code ≡ 0 = omega arith in on-run z (runFaulty (b z .n) (b z .m) run) refl
 
   -- a buffer is short
-  module _ (h : RoomShort plan legs) (e : (A : Type 0) (refuse fine : A) → refuse ≡ roomBy plan legs refuse fine) where
-    too-short : Assembles book run t d plan legs r t′ d′ plan′ legs′
+  module _ (h : RoomShort form plan legs) where
+    e : (A : Type 0) (refuse fine : A) → refuse ≡ roomBy form plan legs refuse fine
+    e A refuse fine = either-short form plan legs refuse fine h
+
+    too-short : Assembles form book run t d plan legs r t′ d′ plan′ legs′
     unfolding assembleBy
     too-short =
         short h (c .result ∙ sym (e _ _ _)) (c .table-is ∙ sym (e _ _ _)) (c .slots-is ∙ sym (e _ _ _))
         (record { plan-same = c .plan-is ∙ sym (e _ _ _); legs-same = c .legs-is ∙ sym (e _ _ _) })
 
-  pub assembles : Assembles book run t d plan legs r t′ d′ plan′ legs′
-  assembles = go (decLt (length plan) 256) (decLt (length legs) 96)
+  pub assembles : Assembles form book run t d plan legs r t′ d′ plan′ legs′
+  assembles = go (decLt (length plan) 256) (decLt (length legs) (32 * form .width))
     where
-      go : Dec (length plan < 256) → Dec (length legs < 96) → Assembles book run t d plan legs r t′ d′ plan′ legs′
-      go (yes h) y = too-short (inl h) (λ A x z. plan-short plan legs x z h)
-      go (no h) (yes k) = too-short (inr k) (λ A x z. legs-short plan legs x z (omega arith) k)
-      go (no h) (no k) = let room : Room plan legs = (omega arith, omega arith) in on-code room (decLt 0 (f room .code))
+      go : Dec (length plan < 256) → Dec (length legs < 32 * form .width) → Assembles form book run t d plan legs r t′ d′ plan′ legs′
+      go (yes h) y = too-short (inl h)
+      go (no h) (yes k) = too-short (inr k)
+      go (no h) (no k) = let room : Room form plan legs = (omega arith, omega arith) in on-code room (decLt 0 (f room .code))
+
+  -- ---- a call is one refusal or one answer, whatever is made of it
+  module _ (room : Room form plan legs) where
+    enough : {A : Type 0} (refuse : ℕ → ℕ → A) (fine : Answer → A) → assembleBy form book run t d plan legs refuse fine ≡ checkBy book t d refuse (plannedBy run refuse fine)
+    unfolding assembleBy
+    enough refuse fine = sym (room-enough form plan legs _ _ room)
+
+    outcome-run : (z : f room .code ≡ 0) (y : Bool) → runFaulty (b room z .n) (b room z .m) run ≡ y → Outcome form book run t d plan legs
+    outcome-run z true e = refused 9 0 (λ A refuse fine. enough refuse fine ∙ checked-by (checked room) _ _ (g room z) ∙ sym (picks.yes _ _ _ _ e refl))
+    outcome-run z false e =
+        let allowed = run-value (deviceOf (b room z)) run (c .run-bytes) e .0 in
+        let ok : Allowed (deviceOf (b room z)) (b room z .items) (runOf run) = record { device = device-proper (b room z) (g room z .accepted .allowed); each = g room z .accepted .allowed .each-item; run = allowed } in
+        given (answerOf (b room z) run) (answer-small (deviceOf (b room z)) (b room z .items) (runOf run) ok _ (answer-right (deviceOf (b room z)) (b room z .items) (runOf run) ok))
+        (λ A refuse fine. enough refuse fine ∙ checked-by (checked room) _ _ (g room z) ∙ sym (picks.no _ _ _ _ e refl))
+
+    outcome-code : Dec (0 < f room .code) → Outcome form book run t d plan legs
+    outcome-code (yes h) = refused (f room .code) (f room .place) (λ A refuse fine. enough refuse fine ∙ unchecked-by (checked room) _ _ (λ e. omega arith))
+    outcome-code (no h) = let z : f room .code ≡ 0 = omega arith in outcome-run z _ refl
+
+  outcome-short : RoomShort form plan legs → Outcome form book run t d plan legs
+  unfolding assembleBy
+  outcome-short h = refused 1 0 (λ A refuse fine. sym (either-short form plan legs (refuse 1 0) _ h))
+
+  pub outcome : Outcome form book run t d plan legs
+  outcome = go (decLt (length plan) 256) (decLt (length legs) (32 * form .width))
+    where
+      go : Dec (length plan < 256) → Dec (length legs < 32 * form .width) → Outcome form book run t d plan legs
+      go (yes h) y = outcome-short (inl h)
+      go (no h) (yes k) = outcome-short (inr k)
+      go (no h) (no k) = let room : Room form plan legs = (omega arith, omega arith) in outcome-code room (decLt 0 (f room .code))

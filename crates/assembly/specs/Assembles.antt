@@ -3,7 +3,7 @@
 use mathlib.Core.Path.{_≡_}
 use mathlib.Core.Logic.{_⊎_}
 use mathlib.Core.List.{List, [], _∷_}
-use Prim.Native.Nat.{ℕ, _≤_, _<_}
+use Prim.Native.Nat.{ℕ, _*_, _≤_, _<_}
 use lib.ListN.{length, getD, take, replicate}
 use Rattle.reversal.specs.Runs.{Run, AllowedRun}
 use Rattle.reversal.specs.Chains.{Leg, none}
@@ -28,34 +28,43 @@ unfoldable pub legsBytes : List Leg → List ℕ
 legsBytes [] = []
 legsBytes (l ∷ ls) = l .number ∷ l .upper ∷ l .lower ∷ legsBytes ls
 
--- "plan bytes and legs past the counts keep what they held"
-pub record Written (bytes old new : List ℕ) : Type 0 where
-  pub front : take (length bytes) new ≡ bytes
-  pub kept : (i : ℕ) → length bytes ≤ i → getD new i 0 ≡ getD old i 0
+-- How the lent legs hold a leg: the elements for one, and those of a list of legs.
+pub record LegForm (E : Type 0) : Type 0 where
+  pub width : ℕ
+  pub held : List Leg → List E
+
+-- as plain bytes; the structs of the exported call stand in planner/specs/Structs
+abbrev pub inBytes : LegForm ℕ
+inBytes = record { width = 3; held = legsBytes }
+
+-- "plan bytes and legs past the counts keep what they held"; z stands for what lies past the end
+pub record Written {E : Type 0} (row old new : List E) : Type 0 where
+  pub front : take (length row) new ≡ row
+  pub kept : (i : ℕ) (z : E) → length row ≤ i → getD new i z ≡ getD old i z
   pub size : length new ≡ length old
 
--- "a plan buffer (256 bytes) and 32 legs", three bytes a leg
-abbrev pub RoomShort : List ℕ → List ℕ → Type 0
-RoomShort plan legs = (length plan < 256) ⊎ (length legs < 96)
+-- "a plan buffer (256 bytes) and 32 legs"
+abbrev pub RoomShort : {E : Type 0} → LegForm E → List ℕ → List E → Type 0
+RoomShort form plan legs = (length plan < 256) ⊎ (length legs < 32 * form .width)
 
-abbrev pub Room : List ℕ → List ℕ → Type 0
-Room plan legs = (256 ≤ length plan) × (96 ≤ length legs)
+abbrev pub Room : {E : Type 0} → LegForm E → List ℕ → List E → Type 0
+Room form plan legs = (256 ≤ length plan) × (32 * form .width ≤ length legs)
 
-pub record Untouched (plan legs plan′ legs′ : List ℕ) : Type 0 where
+pub record Untouched {E : Type 0} (plan : List ℕ) (legs : List E) (plan′ : List ℕ) (legs′ : List E) : Type 0 where
   pub plan-same : plan′ ≡ plan
   pub legs-same : legs′ ≡ legs
 
 -- of a book, a run and the lent buffers at entry; the result r and the buffers at exit
-pub data Assembles (book run t d plan legs : List ℕ) (r : Assembly) (t′ d′ plan′ legs′ : List ℕ) : Type 0 where
+pub data Assembles {E : Type 0} (form : LegForm E) (book run t d plan : List ℕ) (legs : List E) (r : Assembly) (t′ d′ plan′ : List ℕ) (legs′ : List E) : Type 0 where
   -- "1, 0: a lent buffer shorter than stated; all untouched"
-  short : RoomShort plan legs → r ≡ refusal 1 0 → t′ ≡ t → d′ ≡ d → Untouched plan legs plan′ legs′ → Assembles book run t d plan legs r t′ d′ plan′ legs′
+  short : RoomShort form plan legs → r ≡ refusal 1 0 → t′ ≡ t → d′ ≡ d → Untouched plan legs plan′ legs′ → Assembles form book run t d plan legs r t′ d′ plan′ legs′
   -- "then .. 8": what checking refuses, with its code and place, and table and slots as checking leaves them
-  unaccepted : Room plan legs → (c : Reading) → Checks book t d c t′ d′ → (c .code ≡ 0 → ⊥) → r ≡ refusal (c .code) (c .place) → Untouched plan legs plan′ legs′
-      → Assembles book run t d plan legs r t′ d′ plan′ legs′
+  unaccepted : Room form plan legs → (c : Reading) → Checks book t d c t′ d′ → (c .code ≡ 0 → ⊥) → r ≡ refusal (c .code) (c .place) → Untouched plan legs plan′ legs′
+      → Assembles form book run t d plan legs r t′ d′ plan′ legs′
   -- "9, 0: run isn't exactly one record as above, or a command or mask is outside m or n; table and slots read"
-  faulty : Room plan legs → Long t d → (b : Book) → AcceptedBook book b → Filled b t d t′ d′ → (RunFormed (deviceOf b) run → ⊥) → r ≡ refusal 9 0
-      → Untouched plan legs plan′ legs′ → Assembles book run t d plan legs r t′ d′ plan′ legs′
+  faulty : Room form plan legs → Long t d → (b : Book) → AcceptedBook book b → Filled b t d t′ d′ → (RunFormed (deviceOf b) run → ⊥) → r ≡ refusal 9 0
+      → Untouched plan legs plan′ legs′ → Assembles form book run t d plan legs r t′ d′ plan′ legs′
   -- "10", "11" and "0": the answer that 01 fixes for the book's device and items and the run
-  answered : Room plan legs → Long t d → (b : Book) → AcceptedBook book b → Filled b t d t′ d′
+  answered : Room form plan legs → Long t d → (b : Book) → AcceptedBook book b → Filled b t d t′ d′
       → (u : Run) → AllowedRun (deviceOf b) u → runBytes u ≡ run → (a : Answer) → Answers (deviceOf b) (b .items) u a → r ≡ resultOf a
-      → Written (a .plan-bytes) plan plan′ → Written (legsBytes (a .plan-legs)) legs legs′ → Assembles book run t d plan legs r t′ d′ plan′ legs′
+      → Written (a .plan-bytes) plan plan′ → Written (form .held (a .plan-legs)) legs legs′ → Assembles form book run t d plan legs r t′ d′ plan′ legs′

@@ -11,13 +11,13 @@ use Rattle.book.specs.Example.{bytesQ}
 use Rattle.reader.specs.Reads.{Long}
 use Rattle.runs.specs.RunBytes.{runBytes}
 use Rattle.assembly.specs.declared.Assembly.{Assembly}
-use Rattle.assembly.specs.Assembles.{resultOf, Room}
+use Rattle.assembly.specs.Assembles.{resultOf, inBytes, Room}
 use Rattle.assembly.specs.Contract.{AssembleAs}
 
 -- in buffers that are long enough
 pub record BytesGive (u : Run) (a : Answer) : Type 0 where
-  pub result-is : {t d plan legs : List ℕ} {r : Assembly} {t′ d′ plan′ legs′ : List ℕ} → AssembleAs bytesQ (runBytes u) t d plan legs r t′ d′ plan′ legs′
-      → Room plan legs → Long t d → r ≡ resultOf a
+  pub result-is : {t d plan legs : List ℕ} {r : Assembly} {t′ d′ plan′ legs′ : List ℕ} → AssembleAs inBytes bytesQ (runBytes u) t d plan legs r t′ d′ plan′ legs′
+      → Room inBytes plan legs → Long t d → r ≡ resultOf a
 
 pub record Runs : Type 0 where
   pub q5 : BytesGive (run (2 ∷ 1 ∷ []) (7 ∷ 7 ∷ 7 ∷ [])) (found (0 ∷ []) (leg 2 2 0 ∷ []) 1 1 (0 ∷ 1 ∷ 1 ∷ []) 30)

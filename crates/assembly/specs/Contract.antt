@@ -2,7 +2,7 @@
 -- Assumes nothing: these are definitions.
 use mathlib.Core.Path.{_≡_}
 use mathlib.Core.List.{List}
-use Prim.Native.Nat.{ℕ, _<_}
+use Prim.Native.Nat.{ℕ, _*_, _<_}
 use lib.ListN.{length}
 use lib.Seq.{sets}
 use Rattle.base.specs.Lists.{Each}
@@ -16,7 +16,7 @@ use Rattle.reader.specs.Contract.{readBy}
 use Rattle.checker.specs.Contract.{checkBy}
 use Rattle.runs.specs.Computed.{runOf, runFaulty}
 use Rattle.assembly.specs.declared.Assembly.{Assembly}
-use Rattle.assembly.specs.Assembles.{refusal, resultOf, legsBytes}
+use Rattle.assembly.specs.Assembles.{refusal, resultOf, LegForm}
 
 -- the answer for an accepted book, of the run's bytes
 abbrev pub answerOf : Book → List ℕ → Answer
@@ -27,19 +27,19 @@ abbrev pub plannedBy : {A : Type 0} → List ℕ → (ℕ → ℕ → A) → (An
 plannedBy run refuse fine b = pick (runFaulty (b .n) (b .m) run) (refuse 9 0) (fine (answerOf b run))
 
 -- plan and legs are long enough, or `refuse`
-unfoldable pub roomBy : {A : Type 0} → List ℕ → List ℕ → A → A → A
-roomBy plan legs refuse fine = pick (less (length plan) 256) refuse (pick (less (length legs) 96) refuse fine)
+unfoldable pub roomBy : {A E : Type 0} → LegForm E → List ℕ → List E → A → A → A
+roomBy form plan legs refuse fine = pick (less (length plan) 256) refuse (pick (less (length legs) (32 * form .width)) refuse fine)
 
 -- `refuse` with the first code and its place, `fine` with the answer
-unfoldable pub assembleBy : {A : Type 0} → List ℕ → List ℕ → List ℕ → List ℕ → List ℕ → List ℕ → (ℕ → ℕ → A) → (Answer → A) → A
-assembleBy book run t d plan legs refuse fine = roomBy plan legs (refuse 1 0) (checkBy book t d refuse (plannedBy run refuse fine))
+unfoldable pub assembleBy : {A E : Type 0} → LegForm E → List ℕ → List ℕ → List ℕ → List ℕ → List ℕ → List E → (ℕ → ℕ → A) → (Answer → A) → A
+assembleBy form book run t d plan legs refuse fine = roomBy form plan legs (refuse 1 0) (checkBy book t d refuse (plannedBy run refuse fine))
 
--- the contract of `assemble`
-pub record AssembleAs (book run t d plan legs : List ℕ) (r : Assembly) (t′ d′ plan′ legs′ : List ℕ) : Type 0 where
+-- the contract of `assemble`, and of the call with leg structs
+pub record AssembleAs {E : Type 0} (form : LegForm E) (book run t d plan : List ℕ) (legs : List E) (r : Assembly) (t′ d′ plan′ : List ℕ) (legs′ : List E) : Type 0 where
   pub bytes : Each (λ x. x < 256) book
   pub run-bytes : Each (λ x. x < 256) run
-  pub result : r ≡ assembleBy book run t d plan legs refusal resultOf
-  pub table-is : t′ ≡ roomBy plan legs t (readBy book t d (λ code place. t) (λ b. tableOf b t))
-  pub slots-is : d′ ≡ roomBy plan legs d (readBy book t d (λ code place. d) (λ b. slotsOf b d))
-  pub plan-is : plan′ ≡ assembleBy book run t d plan legs (λ code place. plan) (λ a. sets plan 0 (a .plan-bytes))
-  pub legs-is : legs′ ≡ assembleBy book run t d plan legs (λ code place. legs) (λ a. sets legs 0 (legsBytes (a .plan-legs)))
+  pub result : r ≡ assembleBy form book run t d plan legs refusal resultOf
+  pub table-is : t′ ≡ roomBy form plan legs t (readBy book t d (λ code place. t) (λ b. tableOf b t))
+  pub slots-is : d′ ≡ roomBy form plan legs d (readBy book t d (λ code place. d) (λ b. slotsOf b d))
+  pub plan-is : plan′ ≡ assembleBy form book run t d plan legs (λ code place. plan) (λ a. sets plan 0 (a .plan-bytes))
+  pub legs-is : legs′ ≡ assembleBy form book run t d plan legs (λ code place. legs) (λ a. sets legs 0 (form .held (a .plan-legs)))

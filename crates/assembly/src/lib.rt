@@ -7,11 +7,12 @@ use beliefs::beliefs;
 use chain::write_chain;
 use points::points_of;
 ghost use mathlib.Core.Path.{_≡_};
-ghost use Rattle.assembly.specs.Assembles.{refusal};
+ghost use Rattle.assembly.specs.Assembles.{refusal, inBytes};
 ghost use Rattle.assembly.specs.Contract.{AssembleAs};
 
 // What assembling answers: the code and its place; the numbers of commands and legs, each 0 on a refusal; the fewest commands for each of the 33
 // points, 65,535 where there is no chain.
+#[repr(C)]
 pub struct Assembly {
     pub code: u64,
     pub place: u64,
@@ -42,7 +43,7 @@ pub fn assemble(
     plan: &mut [u8],
     legs: &mut [u8],
 ) -> Assembly
-    ensures { λ r. ⌜ AssembleAs (now (book .entry)) (now (run .entry)) (now (table .entry)) (now (slots .entry)) (now (plan .entry)) (now (legs .entry)) r (now (table .exit)) (now (slots .exit)) (now (plan .exit)) (now (legs .exit)) ⌝ }
+    ensures { λ r. ⌜ AssembleAs inBytes (now (book .entry)) (now (run .entry)) (now (table .entry)) (now (slots .entry)) (now (plan .entry)) (now (legs .entry)) r (now (table .exit)) (now (slots .exit)) (now (plan .exit)) (now (legs .exit)) ⌝ }
 {
     if plan.len() < 256 {
         return refused(1, 0);

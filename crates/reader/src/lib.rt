@@ -7,6 +7,7 @@ use book::Scan;
 ghost use Rattle.reader.specs.Contract.{ReadAs};
 
 // What reading and checking answer: the code and its place; n, m and the number of items, each 0 on a refusal.
+#[repr(C)]
 pub struct Reading {
     pub code: u64,
     pub place: u64,

@@ -70,6 +70,7 @@ pub fn outcomes(state: u64, command: u64) -> u64
 }
 
 // What a lookup answers: the code, its place, and the mask of the outcomes.
+#[repr(C)]
 pub struct LookupResult {
     pub code: u64,
     pub place: u64,

@@ -10,6 +10,7 @@ ghost use Rattle.writer.specs.Writes.{refusal};
 ghost use Rattle.writer.specs.Contract.{WriteAs};
 
 // What writing answers: code and place, and the book's length, 0 on a refusal.
+#[repr(C)]
 pub struct Writing {
     pub code: u64,
     pub place: u64,

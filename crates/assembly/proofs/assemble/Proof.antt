@@ -1,6 +1,7 @@
 -- `assemble` meets its contract. Assumes nothing.
 use native.Mathlib.Omega.{arith}
 use Prim.Native.Nat.{_<_}
+use Rattle.assembly.specs.Assembles.{inBytes}
 use Rattle.base.proofs.Lists.{each-of}
 use Rattle.assembly.proofs.Answers.{plan-short, legs-short, room-refused, not-accepted, limits, movable, run-refused, low, no-state, no-number, can-walk, written}
 use borrow.Author.Needs.{needs}
@@ -20,13 +21,13 @@ refused-requires : tie.Need-refused-requires
 refused-requires c κs = search needs
 
 returns : tie.Need-returns
-returns c = room-refused (c .before .before .before .before .before .before .before .before .args .book .now) (c .before .before .before .before .before .before .before .before .args .run .now) (c .before .before .before .before .before .before .before .before .args .table .now) (c .before .before .before .before .before .before .before .before .args .slots .now) (c .before .before .before .before .before .before .before .before .args .plan .now) (c .before .before .before .before .before .before .before .before .args .legs .now) (each-of (λ x. x < 256) (c .before .before .before .before .before .before .before .before .args .book .now) 0 (λ i h. omega (arith, c .before .before .before .before .before .before .before .shared-slice-known .given i))) (each-of (λ x. x < 256) (c .before .before .before .before .before .before .before .before .args .run .now) 0 (λ i h. omega (arith, c .before .before .before .before .before .before .shared-slice-known2 .given i))) (λ A x y. plan-short (c .before .before .before .before .before .before .before .before .args .plan .now) (c .before .before .before .before .before .before .before .before .args .legs .now) x y (c .before .if1 .taken)) (c .refused .ensures)
+returns c = room-refused (c .before .before .before .before .before .before .before .before .args .book .now) (c .before .before .before .before .before .before .before .before .args .run .now) (c .before .before .before .before .before .before .before .before .args .table .now) (c .before .before .before .before .before .before .before .before .args .slots .now) (c .before .before .before .before .before .before .before .before .args .plan .now) (c .before .before .before .before .before .before .before .before .args .legs .now) (each-of (λ x. x < 256) (c .before .before .before .before .before .before .before .before .args .book .now) 0 (λ i h. omega (arith, c .before .before .before .before .before .before .before .shared-slice-known .given i))) (each-of (λ x. x < 256) (c .before .before .before .before .before .before .before .before .args .run .now) 0 (λ i h. omega (arith, c .before .before .before .before .before .before .shared-slice-known2 .given i))) (λ A x y. plan-short inBytes (c .before .before .before .before .before .before .before .before .args .plan .now) (c .before .before .before .before .before .before .before .before .args .legs .now) x y (c .before .if1 .taken)) (c .refused .ensures)
 
 refused-requires-2 : tie.Need-refused-requires-2
 refused-requires-2 c κs = search needs
 
 returns-2 : tie.Need-returns-2
-returns-2 c = room-refused (c .before .before .before .before .before .before .before .before .before .args .book .now) (c .before .before .before .before .before .before .before .before .before .args .run .now) (c .before .before .before .before .before .before .before .before .before .args .table .now) (c .before .before .before .before .before .before .before .before .before .args .slots .now) (c .before .before .before .before .before .before .before .before .before .args .plan .now) (c .before .before .before .before .before .before .before .before .before .args .legs .now) (each-of (λ x. x < 256) (c .before .before .before .before .before .before .before .before .before .args .book .now) 0 (λ i h. omega (arith, c .before .before .before .before .before .before .before .before .shared-slice-known .given i))) (each-of (λ x. x < 256) (c .before .before .before .before .before .before .before .before .before .args .run .now) 0 (λ i h. omega (arith, c .before .before .before .before .before .before .before .shared-slice-known2 .given i))) (λ A x y. legs-short (c .before .before .before .before .before .before .before .before .before .args .plan .now) (c .before .before .before .before .before .before .before .before .before .args .legs .now) x y (c .before .before .if1 .left) (c .before .if2 .taken)) (c .refused2 .ensures)
+returns-2 c = room-refused (c .before .before .before .before .before .before .before .before .before .args .book .now) (c .before .before .before .before .before .before .before .before .before .args .run .now) (c .before .before .before .before .before .before .before .before .before .args .table .now) (c .before .before .before .before .before .before .before .before .before .args .slots .now) (c .before .before .before .before .before .before .before .before .before .args .plan .now) (c .before .before .before .before .before .before .before .before .before .args .legs .now) (each-of (λ x. x < 256) (c .before .before .before .before .before .before .before .before .before .args .book .now) 0 (λ i h. omega (arith, c .before .before .before .before .before .before .before .before .shared-slice-known .given i))) (each-of (λ x. x < 256) (c .before .before .before .before .before .before .before .before .before .args .run .now) 0 (λ i h. omega (arith, c .before .before .before .before .before .before .before .shared-slice-known2 .given i))) (λ A x y. legs-short inBytes (c .before .before .before .before .before .before .before .before .before .args .plan .now) (c .before .before .before .before .before .before .before .before .before .args .legs .now) x y (c .before .before .if1 .left) (c .before .if2 .taken)) (c .refused2 .ensures)
 
 check-requires : tie.Need-check-requires
 check-requires c κs = search needs

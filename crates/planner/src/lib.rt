@@ -1,0 +1,164 @@
+// The calls for C and Rust: the public calls by the names and the order that include/rollback.h has. Each keeps the promise of the call that it passes
+// on to.
+use assembly::Assembly;
+use reader::Reading;
+use ridge::LookupResult;
+use writer::Writing;
+ghost use mathlib.Core.Path.{_≡_};
+ghost use Prim.Native.Nat.{_≤_, _<_};
+ghost use lib.ListN.{length};
+ghost use lib.Seq.{sets};
+ghost use Rattle.reader.specs.Contract.{ReadAs};
+ghost use Rattle.checker.specs.Contract.{CheckAs};
+ghost use Rattle.writer.specs.Contract.{WriteAs};
+ghost use Rattle.assembly.specs.Contract.{AssembleAs};
+ghost use Rattle.assembly.specs.Assembles.{inBytes};
+ghost use Rattle.planner.specs.Structs.{inStructs};
+ghost use Rattle.planner.specs.Whole.{legAt, structsIn, WholeAs};
+ghost use Rattle.ridge.specs.Lookup.{lookupOf};
+
+#[no_mangle]
+pub extern "C" fn rollback_read(book: &[u8], table: &mut [u64], slots: &mut [u8]) -> Reading
+    ensures { λ r. ⌜ ReadAs (now (book .entry)) (now (table .entry)) (now (slots .entry)) r (now (table .exit)) (now (slots .exit)) ⌝ }
+{
+    reader::read(book, table, slots)
+}
+
+#[no_mangle]
+pub extern "C" fn rollback_check(book: &[u8], table: &mut [u64], slots: &mut [u8]) -> Reading
+    ensures { λ r. ⌜ CheckAs (now (book .entry)) (now (table .entry)) (now (slots .entry)) r (now (table .exit)) (now (slots .exit)) ⌝ }
+{
+    checker::check(book, table, slots)
+}
+
+#[no_mangle]
+pub extern "C" fn rollback_assemble(
+    book: &[u8],
+    run: &[u8],
+    table: &mut [u64],
+    slots: &mut [u8],
+    plan: &mut [u8],
+    legs: &mut [u8],
+) -> Assembly
+    ensures { λ r. ⌜ AssembleAs inBytes (now (book .entry)) (now (run .entry)) (now (table .entry)) (now (slots .entry)) (now (plan .entry)) (now (legs .entry)) r (now (table .exit)) (now (slots .exit)) (now (plan .exit)) (now (legs .exit)) ⌝ }
+{
+    assembly::assemble(book, run, table, slots, plan, legs)
+}
+
+#[no_mangle]
+pub extern "C" fn rollback_write(
+    n: u64,
+    m: u64,
+    items: u64,
+    table: &[u64],
+    slots: &[u8],
+    out: &mut [u8],
+) -> Writing
+    ensures { λ r. ⌜ WriteAs n m items (now (table .entry)) (now (slots .entry)) (now (out .entry)) r (now (out .exit)) ⌝ }
+{
+    writer::write(n, m, items, table, slots, out)
+}
+
+#[no_mangle]
+pub extern "C" fn rollback_ridge(state: u64, command: u64) -> LookupResult
+    ensures { λ r. ⌜ r ≡ lookupOf state command ⌝ }
+{
+    ridge::lookup(state, command)
+}
+
+// A leg: item number, upper point, lower point.
+#[repr(C)]
+pub struct Leg {
+    pub item: u8,
+    pub upper: u8,
+    pub lower: u8,
+}
+
+// An answer with its legs as bytes, and the number of legs to write.
+struct Whole {
+    result: Assembly,
+    bytes: [u8; 96],
+    count: usize,
+}
+
+// Assembles with the legs as bytes, where there is room for 32 structs.
+fn assemble_whole(
+    book: &[u8],
+    run: &[u8],
+    table: &mut [u64],
+    slots: &mut [u8],
+    plan: &mut [u8],
+    room: usize,
+) -> Whole
+    ensures { λ r. ⌜ WholeAs (now (book .entry)) (now (run .entry)) (now (table .entry)) (now (slots .entry)) (now (plan .entry)) room r (now (table .exit)) (now (slots .exit)) (now (plan .exit)) ⌝ }
+{
+    let mut bytes = [0u8; 96];
+    if room < 32 {
+        let refused = Assembly {
+            code: 1,
+            place: 0,
+            commands: 0,
+            legs: 0,
+            fewest: [65535u16; 33],
+        };
+        return Whole {
+            result: refused,
+            bytes: bytes,
+            count: 0,
+        };
+    }
+    let result = assembly::assemble(book, run, table, slots, plan, &mut bytes);
+    Whole {
+        result: result,
+        bytes: bytes,
+        count: result.legs as usize,
+    }
+}
+
+// The leg of the three bytes from 3 * i on.
+fn leg_of(w: Whole, i: usize) -> Leg
+    requires { ⌜ i < 32 ⌝ }
+    ensures { λ r. ⌜ r ≡ legAt (w .bytes) i ⌝ }
+{
+    let s = w.bytes;
+    Leg {
+        item: s[3 * i],
+        upper: s[3 * i + 1],
+        lower: s[3 * i + 2],
+    }
+}
+
+fn result_of(w: Whole) -> Assembly
+    ensures { λ r. ⌜ r ≡ w .result ⌝ }
+{
+    w.result
+}
+
+// Writes the legs counted.
+fn fill_legs(legs: &mut [Leg], w: Whole)
+    requires { ⌜ (w .count ≤ length (now legs)) × (w .count ≤ 32) ⌝ }
+    ensures { λ _. ⌜ now (legs .exit) ≡ sets (now (legs .entry)) 0 (structsIn (w .bytes) (w .count) 0) ⌝ }
+{
+    let n = w.count;
+    let mut i: usize = 0;
+    while i < n {
+        legs[i] = leg_of(w, i);
+        i = i + 1;
+    }
+}
+
+#[no_mangle]
+pub extern "C" fn rollback_assemble_legs(
+    book: &[u8],
+    run: &[u8],
+    table: &mut [u64],
+    slots: &mut [u8],
+    plan: &mut [u8],
+    legs: &mut [Leg],
+) -> Assembly
+    ensures { λ r. ⌜ AssembleAs inStructs (now (book .entry)) (now (run .entry)) (now (table .entry)) (now (slots .entry)) (now (plan .entry)) (now (legs .entry)) r (now (table .exit)) (now (slots .exit)) (now (plan .exit)) (now (legs .exit)) ⌝ }
+{
+    let w = assemble_whole(book, run, table, slots, plan, legs.len());
+    fill_legs(legs, w);
+    result_of(w)
+}

@@ -4,15 +4,17 @@ use mathlib.Core.Bool.{false}
 use mathlib.Core.Logic.{_⊎_, inl, inr}
 use mathlib.Core.List.{List}
 use Prim.Native.Nat.{ℕ, _*_, _≤_}
+use native.Mathlib.Nat.{le-trans}
 use native.Mathlib.Omega.{arith}
 use lib.ListN.{length, take}
+use lib.Seq.{sets}
 use Rattle.base.proofs.Picks as picks
 use Rattle.reversal.specs.Runs.{Run, last}
 use Rattle.reversal.specs.Chains.{Best, Chain, plan, legs, Undoes}
 use Rattle.reversal.specs.Answers.{Allowed, Answer, assembled, Answers, no-history, no-chain, done, Numbers}
 use Rattle.reversal.specs.Computed.Assembly.{answer}
 use Rattle.reversal.proofs.EndToEnd.{chain-undoes}
-use Rattle.reversal.proofs.Assembling.{answer-right}
+use Rattle.reversal.proofs.Assembling.{answer-right, answers-unique}
 use Rattle.book.specs.Book.{Book, deviceOf}
 use Rattle.book.proofs.Device.{device-proper}
 use Rattle.book.proofs.Codes.{refusal-codes}
@@ -27,9 +29,10 @@ use Rattle.runs.proofs.Formed.{run-unique, run-passes}
 use Rattle.assembly.specs.declared.Assembly.{Assembly}
 use Rattle.assembly.specs.Assembles.{refusal, resultOf, LegForm, Written, Room, Assembles, short, unaccepted, faulty, answered}
 use Rattle.assembly.specs.Contract.{answerOf, plannedBy, assembleBy, AssembleAs}
+use Rattle.assembly.specs.Cases.{Left}
 use Rattle.assembly.specs.Demand.{Given, Ready, Planned, Demand}
 use Rattle.assembly.proofs.Answers.{room-enough}
-use Rattle.assembly.proofs.Exactly.{Even, length-legs, assembles}
+use Rattle.assembly.proofs.Exactly.{stored, Even, length-legs, Small, answer-small, held-small, assembles}
 
 -- checking has no code above 8
 check-codes : {s t d : List ℕ} {c : Reading} {t′ d′ : List ℕ} → Checks s t d c t′ d′ → c .code ≤ 8
@@ -69,13 +72,31 @@ module _ {E : Type 0} {form : LegForm E} (even : Even form) {book run t d plan�
     this-run : runOf run ≡ u
     this-run = ap runOf (sym (given .run-bytes)) ∙ run-unique (deviceOf b) u (given .allowed) small
 
-    pub result-is : r ≡ resultOf (answer (deviceOf b) (b .items) u)
+    pub way-is : {A : Type 0} (refuse : ℕ → ℕ → A) (fine : Answer → A) → assembleBy form book run t d plan₀ legs₀ refuse fine ≡ fine (answer (deviceOf b) (b .items) u)
     unfolding assembleBy
-    result-is =
-        c .result ∙ sym (room-enough form plan₀ legs₀ _ _ room)
-        ∙ accepted-by book t d refusal (plannedBy run refusal resultOf) long b (given .accepted)
-        ∙ sym (picks.no (resultOf (answerOf b run)) (refusal 9 0) (resultOf (answerOf b run)) (runFaulty (b .n) (b .m) run) fine-run refl)
-        ∙ ap (λ (v : Run). resultOf (answer (deviceOf b) (b .items) v)) this-run
+    way-is refuse fine =
+        sym (room-enough form plan₀ legs₀ _ _ room)
+        ∙ accepted-by book t d refuse (plannedBy run refuse fine) long b (given .accepted)
+        ∙ sym (picks.no (fine (answerOf b run)) (refuse 9 0) (fine (answerOf b run)) (runFaulty (b .n) (b .m) run) fine-run refl)
+        ∙ ap (λ (v : Run). fine (answer (deviceOf b) (b .items) v)) this-run
+
+    pub result-is : r ≡ resultOf (answer (deviceOf b) (b .items) u)
+    result-is = c .result ∙ way-is refusal resultOf
+
+    -- all that is left behind, at an answer known to be right
+    pub left-at : (a : Answer) → Answers (deviceOf b) (b .items) u a → Left form a plan₀ legs₀ r plan′ legs′
+    left-at a right-a =
+        record {
+          result = result-is ∙ ap resultOf same;
+          plan-written = stored _ plan₀ plan′ (le-trans (small-a .plan-small) (room .0)) (c .plan-is ∙ way-is (λ code place. plan₀) (λ x. sets plan₀ 0 (x .plan-bytes)) ∙ ap (λ (x : Answer). sets plan₀ 0 (x .plan-bytes)) same);
+          legs-written = stored _ legs₀ legs′ (le-trans (held-small form even _ (small-a .legs-small)) (room .1)) (c .legs-is ∙ way-is (λ code place. legs₀) (λ x. sets legs₀ 0 (form .held (x .plan-legs))) ∙ ap (λ (x : Answer). sets legs₀ 0 (form .held (x .plan-legs))) same);
+        }
+      where
+        same : answer (deviceOf b) (b .items) u ≡ a
+        same = answers-unique (deviceOf b) (b .items) u _ a right right-a
+
+        small-a : Small a
+        small-a = answer-small (deviceOf b) (b .items) u ok a right-a
 
   module _ (b : Book) (u : Run) (ready : Ready form book run t d plan₀ legs₀ b u) where
     answers : Answers (deviceOf b) (b .items) u (answer (deviceOf b) (b .items) u)

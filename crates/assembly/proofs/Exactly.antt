@@ -92,7 +92,7 @@ module _ (d : Device) (items : List Item) (r : Run) (ok : Allowed d items r) whe
       let (p, l) = chain-most d r items (ok .each) xs (last r) (best .chain) in
       rw e (record { plan-small = omega (arith, ok .run .short); legs-small = omega (arith, ok .run .short, length-legs items xs (last r)); legs-counted = length-legs items xs (last r) })
 
-held-small : {E : Type 0} (form : LegForm E) → Even form → (ls : List Leg) → length ls ≤ 32 → length (form .held ls) ≤ 32 * form .width
+pub held-small : {E : Type 0} (form : LegForm E) → Even form → (ls : List Leg) → length ls ≤ 32 → length (form .held ls) ≤ 32 * form .width
 held-small form even ls l = subst₂ (λ (x y : ℕ). x ≤ y) (sym (even ls)) (mul-comm (form .width) 32) (mul-le-mul-left (form .width) l)
 
 -- what a call comes to: one refusal or one answer

@@ -38,8 +38,11 @@ use Rattle.writer.proofs.RoundTrips.{writes-zero↔, write-well-formed, write-l
 use Rattle.writer.proofs.write as write
 use Rattle.writer.proofs.write.Symbol.{routine as write-routine}
 use Rattle.writer.proofs.write.Met.{met as write-met}
-use Rattle.assembly.proofs.Exactly.{assembles}
+use Rattle.assembly.proofs.Exactly.{even-bytes, assembles}
+use Rattle.assembly.specs.Assembles.{inBytes}
+use Rattle.assembly.specs.Cases.{Runs}
 use Rattle.assembly.proofs.Demand.{demand}
+use Rattle.assembly.proofs.Cases.{runs}
 use Rattle.assembly.proofs.assemble as assemble
 use Rattle.assembly.proofs.assemble.Symbol.{routine as assemble-routine}
 use Rattle.assembly.proofs.assemble.Met.{met as assemble-met}
@@ -47,8 +50,30 @@ use Rattle.ridge.proofs.Answers.{looked}
 use Rattle.ridge.proofs.lookup as lookup
 use Rattle.ridge.proofs.lookup.Symbol.{routine as lookup-routine}
 use Rattle.ridge.proofs.lookup.Met.{met as lookup-met}
+use Rattle.planner.specs.Structs.{inStructs}
+use Rattle.planner.specs.Cases.{StructRuns}
+use Rattle.planner.proofs.Structs.{even-structs}
+use Rattle.planner.proofs.Cases.{struct-runs}
+use Rattle.planner.proofs.rollback_read as exported-read
+use Rattle.planner.proofs.rollback_read.Symbol.{routine as exported-read-routine}
+use Rattle.planner.proofs.rollback_read.Met.{met as exported-read-met}
+use Rattle.planner.proofs.rollback_check as exported-check
+use Rattle.planner.proofs.rollback_check.Symbol.{routine as exported-check-routine}
+use Rattle.planner.proofs.rollback_check.Met.{met as exported-check-met}
+use Rattle.planner.proofs.rollback_write as exported-write
+use Rattle.planner.proofs.rollback_write.Symbol.{routine as exported-write-routine}
+use Rattle.planner.proofs.rollback_write.Met.{met as exported-write-met}
+use Rattle.planner.proofs.rollback_assemble as exported-assemble
+use Rattle.planner.proofs.rollback_assemble.Symbol.{routine as exported-assemble-routine}
+use Rattle.planner.proofs.rollback_assemble.Met.{met as exported-assemble-met}
+use Rattle.planner.proofs.rollback_assemble_legs as assemble-legs
+use Rattle.planner.proofs.rollback_assemble_legs.Symbol.{routine as assemble-legs-routine}
+use Rattle.planner.proofs.rollback_assemble_legs.Met.{met as assemble-legs-met}
+use Rattle.planner.proofs.rollback_ridge as exported-ridge
+use Rattle.planner.proofs.rollback_ridge.Symbol.{routine as exported-ridge-routine}
+use Rattle.planner.proofs.rollback_ridge.Met.{met as exported-ridge-met}
 use Rattle.claims.specs.Always.{Always}
-use Rattle.claims.specs.Claims.{ReadContract, Reading, ReadingZero, CheckContract, Checking, CheckingZero, CheckingEight, WriteContract, Writing, WritingZero, WellWritten, WriteBack, ReadBack, AssembleContract, Assembling, DemandThree, LookupContract, Lookup}
+use Rattle.claims.specs.Claims.{ReadContract, Reading, ReadingZero, CheckContract, Checking, CheckingZero, CheckingEight, WriteContract, Writing, WritingZero, WellWritten, WriteBack, ReadBack, AssembleContract, Assembling, DemandThree, LegsContract, AssemblingLegs, DemandThreeLegs, LookupContract, Lookup}
 use Rattle.claims.proofs.Weaker.{weaker}
 use Rattle.claims.proofs.RoundTrips.{write-back, read-back}
 
@@ -154,11 +179,34 @@ pub assemble-contract : Always assemble.ended assemble-routine AssembleContract
 assemble-contract M = assemble-met
 
 pub assembling : Always assemble.ended assemble-routine Assembling
-assembling = weaker assemble.ended assemble-routine AssembleContract Assembling (λ κs a r e. assembles) assemble-contract
+assembling = weaker assemble.ended assemble-routine AssembleContract Assembling (λ κs a r e. assembles even-bytes) assemble-contract
 
 -- demand 3
 pub demand-three : Always assemble.ended assemble-routine DemandThree
-demand-three = weaker assemble.ended assemble-routine AssembleContract DemandThree (λ κs a r e. demand) assemble-contract
+demand-three = weaker assemble.ended assemble-routine AssembleContract DemandThree (λ κs a r e. demand even-bytes) assemble-contract
+
+-- Q5 to Q12 of the call's bytes and buffers
+pub runs-in-bytes : Runs inBytes
+runs-in-bytes = runs inBytes even-bytes
+
+-- ---- assembling with leg structs
+
+pub legs-contract : Always assemble-legs.ended assemble-legs-routine LegsContract
+legs-contract M = assemble-legs-met
+
+pub assembling-legs : Always assemble-legs.ended assemble-legs-routine AssemblingLegs
+assembling-legs = weaker assemble-legs.ended assemble-legs-routine LegsContract AssemblingLegs (λ κs a r e. assembles even-structs) legs-contract
+
+-- demand 3, of the structs
+pub demand-three-legs : Always assemble-legs.ended assemble-legs-routine DemandThreeLegs
+demand-three-legs = weaker assemble-legs.ended assemble-legs-routine LegsContract DemandThreeLegs (λ κs a r e. demand even-structs) legs-contract
+
+pub runs-in-structs : Runs inStructs
+runs-in-structs = runs inStructs even-structs
+
+-- Q5, Q6 and Q8 with the structs written out
+pub legs-of-runs : StructRuns
+legs-of-runs = struct-runs
 
 -- ---- the ridge lookup
 
@@ -167,3 +215,20 @@ lookup-contract M = lookup-met
 
 pub looked-up : Always lookup.ended lookup-routine Lookup
 looked-up = weaker lookup.ended lookup-routine LookupContract Lookup (λ κs a r e. looked (a .0) (a .1 .0) r) lookup-contract
+
+-- ---- the exported calls keep the promises of those that they pass on to
+
+pub exported-reading : Always exported-read.ended exported-read-routine ReadContract
+exported-reading M = exported-read-met
+
+pub exported-checking : Always exported-check.ended exported-check-routine CheckContract
+exported-checking M = exported-check-met
+
+pub exported-assembling : Always exported-assemble.ended exported-assemble-routine AssembleContract
+exported-assembling M = exported-assemble-met
+
+pub exported-writing : Always exported-write.ended exported-write-routine WriteContract
+exported-writing M = exported-write-met
+
+pub exported-lookup : Always exported-ridge.ended exported-ridge-routine LookupContract
+exported-lookup M = exported-ridge-met

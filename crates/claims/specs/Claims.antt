@@ -18,12 +18,14 @@ use Rattle.writer.specs.declared.Writing.{Writing as WritingResult}
 use Rattle.writer.specs.Writes.{LongEnough, BookWritten, Writes}
 use Rattle.writer.specs.Contract.{WriteAs}
 use Rattle.writer.proofs.write as write
-use Rattle.assembly.specs.Assembles.{Assembles}
+use Rattle.assembly.specs.Assembles.{inBytes, Assembles}
 use Rattle.assembly.specs.Contract.{AssembleAs}
 use Rattle.assembly.specs.Demand.{Demand}
 use Rattle.assembly.proofs.assemble as assemble
 use Rattle.ridge.specs.Lookup.{Looked, lookupOf}
 use Rattle.ridge.proofs.lookup as lookup
+use Rattle.planner.specs.Structs.{inStructs}
+use Rattle.planner.proofs.rollback_assemble_legs as assemble-legs
 use Rattle.claims.specs.Always.{After}
 
 -- ---- reading
@@ -104,17 +106,31 @@ ReadBack κs (book, (table, (slots, _))) r (_, (table′, (slots′, _))) =
 
 abbrev pub AssembleContract : After assemble.ended
 AssembleContract κs (book, (run, (table, (slots, (plan, (legs, _)))))) r (_, (_, (table′, (slots′, (plan′, (legs′, _)))))) =
-    AssembleAs (now book) (now run) (now table) (now slots) (now plan) (now legs) r (now table′) (now slots′) (now plan′) (now legs′)
+    AssembleAs inBytes (now book) (now run) (now table) (now slots) (now plan) (now legs) r (now table′) (now slots′) (now plan′) (now legs′)
 
 -- every code of 01's table in its order, with every buffer as stated for it
 abbrev pub Assembling : After assemble.ended
 Assembling κs (book, (run, (table, (slots, (plan, (legs, _)))))) r (_, (_, (table′, (slots′, (plan′, (legs′, _)))))) =
-    Assembles (now book) (now run) (now table) (now slots) (now plan) (now legs) r (now table′) (now slots′) (now plan′) (now legs′)
+    Assembles inBytes (now book) (now run) (now table) (now slots) (now plan) (now legs) r (now table′) (now slots′) (now plan′) (now legs′)
 
 -- demand 3, whole
 abbrev pub DemandThree : After assemble.ended
 DemandThree κs (book, (run, (table, (slots, (plan, (legs, _)))))) r (_, (_, (_, (_, (plan′, (legs′, _)))))) =
-    Demand (now book) (now run) (now table) (now slots) (now plan) (now legs) r (now plan′) (now legs′)
+    Demand inBytes (now book) (now run) (now table) (now slots) (now plan) (now legs) r (now plan′) (now legs′)
+
+-- ---- assembling with leg structs: the same of the structs
+
+abbrev pub LegsContract : After assemble-legs.ended
+LegsContract κs (book, (run, (table, (slots, (plan, (legs, _)))))) r (_, (_, (table′, (slots′, (plan′, (legs′, _)))))) =
+    AssembleAs inStructs (now book) (now run) (now table) (now slots) (now plan) (now legs) r (now table′) (now slots′) (now plan′) (now legs′)
+
+abbrev pub AssemblingLegs : After assemble-legs.ended
+AssemblingLegs κs (book, (run, (table, (slots, (plan, (legs, _)))))) r (_, (_, (table′, (slots′, (plan′, (legs′, _)))))) =
+    Assembles inStructs (now book) (now run) (now table) (now slots) (now plan) (now legs) r (now table′) (now slots′) (now plan′) (now legs′)
+
+abbrev pub DemandThreeLegs : After assemble-legs.ended
+DemandThreeLegs κs (book, (run, (table, (slots, (plan, (legs, _)))))) r (_, (_, (_, (_, (plan′, (legs′, _)))))) =
+    Demand inStructs (now book) (now run) (now table) (now slots) (now plan) (now legs) r (now plan′) (now legs′)
 
 -- ---- the ridge lookup
 

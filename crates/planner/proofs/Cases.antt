@@ -1,0 +1,17 @@
+-- Q5, Q6 and Q8 with leg structs, by the joint table. Assumes nothing.
+use Rattle.assembly.specs.Cases.{Runs}
+use Rattle.assembly.proofs.Cases.{runs}
+use Rattle.planner.specs.Structs.{inStructs}
+use Rattle.planner.specs.Cases.{StructRuns}
+use Rattle.planner.proofs.Structs.{even-structs}
+
+all : Runs inStructs
+all = runs inStructs even-structs
+
+pub struct-runs : StructRuns
+struct-runs =
+    record {
+      q5 = record { written = λ c room long. all .q5 .left c room long .legs-written };
+      q6 = record { written = λ c room long. all .q6 .left c room long .legs-written };
+      q8 = record { written = λ c room long. all .q8 .left c room long .legs-written };
+    }

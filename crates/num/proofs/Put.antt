@@ -1,10 +1,14 @@
 -- Rows of bytes stored from a place on. Assumes nothing.
-use mathlib.Core.Path.{_≡_, refl, sym, ap, _∙_}
+use mathlib.Core.Path.{_≡_, refl, sym, ap, _∙_, subst}
+use mathlib.Core.Bool.{Bool, true, false, not}
 use mathlib.Core.List.{List, [], _∷_, _++_}
-use Prim.Native.Nat.{ℕ, zero, suc, _+_, _-_, _/_, _%_, _≤_}
+use Prim.Native.Nat.{ℕ, zero, suc, _+_, _-_, _/_, _%_, _≤_, _<_}
 use native.Mathlib.Nat.{add-zero, sub-zero}
 use native.Mathlib.Numerals.{add-one}
+use native.Mathlib.Decide.{decLt}
 use native.Mathlib.Omega.{arith}
+use borrow.Author.Tests.{leb-true, le-leb, lt-leb}
+use lib.Dec.{T, leb}
 use lib.ListN.{length, getD, set, take, drop}
 use lib.Seq.{set-out, sets, drop-cons}
 use Rattle.num.specs.Le.{bytesLe, piece}
@@ -39,6 +43,9 @@ module _ (whole : List ℕ) (left x to : ℕ) where
 pub copy-start : (n : ℕ) (s : List ℕ) (p : ℕ) (d : List ℕ) (q : ℕ) → sets d q (piece (n - 0) s (p + 0)) ≡ sets d q (piece n s p)
 copy-start n s p d q = rw (sub-zero, add-zero p)
 
+pub copy-first : (n : ℕ) (s : List ℕ) (p : ℕ) (d : List ℕ) (q : ℕ) → sets d (q + 0) (piece (n - 0) s (p + 0)) ≡ sets d q (piece n s p)
+copy-first n s p d q = rw (sub-zero, add-zero p, add-zero q)
+
 module _ (n : ℕ) (s : List ℕ) (p : ℕ) (whole : List ℕ) (i to : ℕ) where
   pub copy-again : (d : List ℕ) (b : ℕ) → sets d to (piece (n - i) s (p + i)) ≡ whole → b ≡ getD s (p + i) 0 → i ≤ n → (i ≡ n → ⊥)
       → sets (set d to b) (to + 1) (piece (n - (i + 1)) s (p + (i + 1))) ≡ whole
@@ -54,6 +61,28 @@ module _ (n : ℕ) (s : List ℕ) (p : ℕ) (whole : List ℕ) (i to : ℕ) wher
 
   pub copy-past : (d : List ℕ) → sets d to (piece (n - i) s (p + i)) ≡ whole → length d ≤ to → d ≡ whole
   copy-past d w h = sym (sets-past d to (piece (n - i) s (p + i)) h) ∙ w
+
+  -- with one counter for both places
+  pub copy-next : (q : ℕ) (d : List ℕ) (b : ℕ) → sets d (q + i) (piece (n - i) s (p + i)) ≡ whole → b ≡ getD s (p + i) 0 → i < n
+      → sets (set d (q + i) b) (q + (i + 1)) (piece (n - (i + 1)) s (p + (i + 1))) ≡ whole
+  unfolding piece
+  copy-next q d b w e h =
+      let x : n - i ≡ suc (n - (i + 1)) = omega arith in
+      let g : p + (i + 1) ≡ suc (p + i) = omega arith in
+      let f : q + (i + 1) ≡ suc (q + i) = omega arith in
+      rw (e, g, f) (rw x at w)
+
+-- ---- the test for room
+pub room-same : (len at n : ℕ) → at ≤ len → leb n (len - at) ≡ leb (at + n) len
+room-same len at n h = go (decLt len (at + n))
+  where
+    go : Dec (len < at + n) → leb n (len - at) ≡ leb (at + n) len
+    go (yes l) = lt-leb n (len - at) (omega arith) ∙ sym (lt-leb (at + n) len l)
+    go (no l) = le-leb n (len - at) (omega arith) ∙ sym (le-leb (at + n) len (omega arith))
+
+pub room-is : (r : Bool) (len at n : ℕ) → r ≡ leb (at + n) len → not r ≡ false → at + n ≤ len
+room-is true len at n e f = leb-true (at + n) len (sym e)
+room-is false len at n e f = absurd (subst T f tt)
 
 -- ---- the bytes that are copied
 pub length-piece : (n : ℕ) (s : List ℕ) (p : ℕ) → length (piece n s p) ≡ n

@@ -3,8 +3,11 @@ use mathlib.Core.Path.{_≡_, refl, sym, ap, _∙_}
 use mathlib.Core.Bool.{Bool, true, false}
 use mathlib.Core.List.{List, [], _∷_, _++_, map}
 use Prim.Native.Nat.{ℕ, suc, _+_, _-_, _*_, _/_, _%_, _<_, _≤_}
+use native.Mathlib.Nat.{mul-le-mul-right}
 use native.Mathlib.Numerals.{add-one}
+use native.Mathlib.Decide.{decLt}
 use native.Mathlib.Omega.{arith}
+use lib.Arith.{digits-div, digits-mod}
 use lib.ListN.{length, getD, drop, length-append}
 use lib.Seq.{sets, drop-drop}
 use Rattle.base.specs.Tests.{pick}
@@ -13,17 +16,37 @@ use Rattle.base.proofs.Picks.{same-yes, same-no}
 use Rattle.num.proofs.Put.{sets-append}
 use Rattle.book.specs.Book.{frame, framed, moveRec, itemRec}
 use Rattle.book.specs.Buffers.{moveAt, movesFrom, itemAt, itemsFrom}
-use Rattle.writer.specs.Records.{move, entryBytes, movesBytes, itemsBytes}
+use Rattle.writer.specs.declared.records.Cell.{Cell}
+use Rattle.writer.specs.Records.{move, entryRow, CellAt, entryBytes, movesBytes, itemsBytes}
 
 -- ---- one entry
-module _ (t : List ℕ) (i m mask : ℕ) where
-  pub entry-none : mask ≡ getD t i 0 → mask ≡ 0 → [] ≡ entryBytes t i m
-  unfolding entryBytes
-  entry-none e z = same-yes [] [] _ _ 0 (sym e ∙ z) refl
+module _ (mask state command : ℕ) where
+  pub row-none : mask ≡ 0 → [] ≡ entryRow mask state command
+  unfolding entryRow
+  row-none z = same-yes [] [] _ _ 0 z refl
 
-  pub entry-some : mask ≡ getD t i 0 → (mask ≡ 0 → ⊥) → frame (moveRec (move (i / m) (i % m) mask)) ≡ entryBytes t i m
-  unfolding entryBytes moveAt
-  entry-some e z = same-no _ [] _ _ 0 (λ w. z (e ∙ w)) (rw e)
+  pub row-some : (mask ≡ 0 → ⊥) → frame (moveRec (move state command mask)) ≡ entryRow mask state command
+  unfolding entryRow
+  row-some z = same-no _ [] _ _ 0 z refl
+
+-- counted by state and command it is the entry of the table
+module _ {m i : ℕ} {cell : Cell} (at : CellAt m i cell) where
+  pub entry-is : (t : List ℕ) (mask : ℕ) → mask ≡ getD t i 0 → entryRow mask (cell .state) (cell .command) ≡ entryBytes t i m
+  unfolding entryRow entryBytes moveAt
+  entry-is t mask e = rw (e, ← state-is, ← command-is)
+    where
+      state-is : i / m ≡ cell .state
+      state-is = ap (λ (x : ℕ). x / m) (sym (at .place)) ∙ digits-div (cell .state) (at .below)
+
+      command-is : i % m ≡ cell .command
+      command-is = ap (λ (x : ℕ). x % m) (sym (at .place)) ∙ digits-mod (cell .state) (at .below)
+
+  pub state-low : i < 64 * m → cell .state < 64
+  state-low h = go (decLt (cell .state) 64)
+    where
+      go : Dec (cell .state < 64) → cell .state < 64
+      go (yes l) = l
+      go (no l) = let k : 64 * m ≤ cell .state * m = mul-le-mul-right m (omega arith) in absurd (omega (arith, at .place))
 
 -- ---- rows that a loop stores one by one: `one i` in turn i, `left k i` in the k turns from i on
 pub record Turns (one : ℕ → List ℕ) (left : ℕ → ℕ → List ℕ) : Type 0 where

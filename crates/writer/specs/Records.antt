@@ -1,4 +1,5 @@
 -- The bytes that the writer's functions store, in the code's order; proofs/ ties them to `bytesOf`. Assumes nothing: these are definitions.
+use mathlib.Core.Path.{_≡_}
 use mathlib.Core.List.{List, [], _++_, map}
 use Prim.Native.Nat.{ℕ, _+_, _*_, _<_, _≤_}
 use lib.ListN.{getD, drop}
@@ -6,14 +7,24 @@ use Rattle.base.specs.Tests.{pick}
 use Rattle.base.specs.Compare.{same}
 use Rattle.num.specs.Le.{bytesLe, leAt, piece}
 use Rattle.book.specs.Book.{Move, frame, framed, moveRec, itemRec}
+use Rattle.writer.specs.declared.records.Cell.{Cell}
 use Rattle.book.specs.Buffers.{moveAt, movesFrom, itemsFrom}
 
 abbrev pub move : ℕ → ℕ → ℕ → Move
 move state command mask = record { state = state; command = command; mask = mask }
 
--- the record of entry i, where it is not 0
+-- the record of an entry, where its mask is not 0
+unfoldable pub entryRow : ℕ → ℕ → ℕ → List ℕ
+entryRow mask state command = pick (same mask 0) [] (frame (moveRec (move state command mask)))
+
+-- the same of entry i of a table
 unfoldable pub entryBytes : List ℕ → ℕ → ℕ → List ℕ
 entryBytes t i m = pick (same (getD t i 0) 0) [] (frame (moveRec (moveAt t i m)))
+
+-- entry i is that of the state and the command
+pub record CellAt (m i : ℕ) (cell : Cell) : Type 0 where
+  pub place : cell .state * m + cell .command ≡ i
+  pub below : cell .command < m
 
 -- the records of the k entries from i on
 unfoldable pub movesBytes : ℕ → List ℕ → ℕ → ℕ → List ℕ

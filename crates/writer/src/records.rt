@@ -6,7 +6,7 @@ ghost use lib.ListN.{length, getD, drop};
 ghost use lib.Seq.{sets};
 ghost use Rattle.book.specs.Book.{bytesOf, frame, deviceRec, moveRec, itemRec};
 ghost use Rattle.book.specs.Buffers.{itemAt, bookFrom};
-ghost use Rattle.writer.specs.Records.{move, entryBytes, movesBytes, itemHead, itemTail, itemsBytes, CountsFine};
+ghost use Rattle.writer.specs.Records.{move, entryRow, movesBytes, CellAt, itemHead, itemTail, itemsBytes, CountsFine};
 
 // The record of the device, from 0 on.
 fn put_device(n: u64, m: u64, d: &mut [u8])
@@ -31,19 +31,42 @@ fn put_move(state: u64, command: u64, mask: u64, d: &mut [u8], at: usize)
     num::put_le(8, mask, d, at + 6);
 }
 
-// The record of the table's entry i, where it is not 0.
-fn put_entry(t: &[u64], i: usize, m: u64, d: &mut [u8], at: usize) -> usize
-    requires { ⌜ (at + 14 < 2 ^ 64) × (1 ≤ m) × (m ≤ 32) × (i < 64 * m) ⌝ }
-    ensures { λ _. ⌜ now (d .exit) ≡ sets (now (d .entry)) at (entryBytes (now (t .entry)) i m) ⌝ }
-    ensures { λ r. ⌜ r ≡ at + length (entryBytes (now (t .entry)) i m) ⌝ }
+// The record of an entry, where its mask is not 0.
+fn put_entry(mask: u64, state: u64, command: u64, d: &mut [u8], at: usize) -> usize
+    requires { ⌜ (at + 14 < 2 ^ 64) × (state < 256) × (command < 256) ⌝ }
+    ensures { λ _. ⌜ now (d .exit) ≡ sets (now (d .entry)) at (entryRow mask state command) ⌝ }
+    ensures { λ r. ⌜ r ≡ at + length (entryRow mask state command) ⌝ }
     ensures { λ r. ⌜ r ≤ at + 14 ⌝ }
 {
-    let mask = entry_at(t, i);
     if mask == 0 {
         return at;
     }
-    put_move(i as u64 / m, i as u64 % m, mask, d, at);
+    put_move(state, command, mask, d, at);
     at + 14
+}
+
+// The state and the command of an entry.
+struct Cell {
+    state: u64,
+    command: u64,
+}
+
+// Those of the next entry.
+fn next_cell(cell: Cell, m: u64) -> Cell
+    requires { ⌜ (cell .state < 64) × (cell .command < m) × (m ≤ 32) ⌝ }
+    ensures { λ r. ⌜ CellAt m (cell .state * m + cell .command + 1) r ⌝ }
+{
+    let next = cell.command + 1;
+    if next < m {
+        return Cell {
+            state: cell.state,
+            command: next,
+        };
+    }
+    Cell {
+        state: cell.state + 1,
+        command: 0,
+    }
 }
 
 // The records of the first k entries.
@@ -55,8 +78,13 @@ fn put_moves(k: usize, t: &[u64], m: u64, d: &mut [u8], at: usize) -> usize
 {
     let mut i: usize = 0;
     let mut p = at;
+    let mut cell = Cell {
+        state: 0,
+        command: 0,
+    };
     while i < k {
-        p = put_entry(t, i, m, d, p);
+        p = put_entry(entry_at(t, i), cell.state, cell.command, d, p);
+        cell = next_cell(cell, m);
         i = i + 1;
     }
     p

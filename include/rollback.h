@@ -3,12 +3,12 @@
  *
  * A book holds a device's transition table and its items, a run what was sent and heard; document 01
  * fixes the bytes of both and every answer. That a call gives this answer, and leaves in each buffer
- * what is said here, is proved for all arguments. What no proof covers is the caller's part:
+ * what is said here, is proved of its source for all arguments. What no proof covers:
  *
  * - every length is true: so many elements are there to be read, and to be written where not const;
  * - a buffer that a call writes overlaps no other of that call, and nobody else uses it meanwhile;
  * - table is aligned as uint64_t is;
- * - this header fits the archive; the linker, and the memcpy and memset that it finds, do their work.
+ * - this header fits the archive, and the compiler's back end, the linker, memcpy and memset are right.
  *
  * Lengths count elements. Where a length is 0 the pointer may be null. Book and run may have any
  * length. Lent buffers may be longer than stated; what lies past the stated length is neither read nor

@@ -1,5 +1,5 @@
-//! The verified library beside the plain program: the time of each call, how checking grows, and the
-//! library's stack use. Prints tables.
+//! The verified library beside the plain program: the time of each call, how checking grows, and
+//! the library's stack use. Prints tables.
 
 use std::hint::black_box;
 use std::path::Path;
@@ -245,6 +245,8 @@ fn main() {
         ("c, ridge", ridge_book(), ridge_run()),
         ("d, Q", q_book(), q5_run()),
     ];
+    println!("Times of one call, from {SAMPLES} batches of each program in turn, both built for");
+    println!("release, on the same buffers, which are not cleared between calls.");
     heading("The library and the plain program", "book, call");
     for (name, book, run) in &books {
         let mut lent = Lent::new(book.clone(), run.clone());

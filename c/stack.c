@@ -1,0 +1,128 @@
+/*
+ * The deepest stack use of each call over some books and runs: stack BOOK RUN [BOOK RUN ...]
+ * Each call runs in a thread of its own on a painted stack. Printed are the bytes used beyond a caller
+ * that does nothing; the caller's frame with the result is among them.
+ */
+#define _XOPEN_SOURCE 700
+#include "load.h"
+#include "rollback.h"
+
+#include <pthread.h>
+#include <string.h>
+
+enum { STACK = 1 << 20, GAP = 1 << 16, PAINT = 0xA5 };
+
+static uint64_t table[ROLLBACK_TABLE];
+static uint8_t slots[ROLLBACK_SLOTS], plan[ROLLBACK_PLAN], legs[ROLLBACK_LEGS], out[ROLLBACK_BOOK_MAX];
+static rollback_leg structs[ROLLBACK_LEG_STRUCTS];
+static file book, run;
+static rollback_reading device;
+static volatile uint64_t code;
+
+static void nothing(void) {
+    code = 0;
+}
+
+static void read_book(void) {
+    rollback_reading r = rollback_read(book.bytes, book.length, table, ROLLBACK_TABLE, slots, ROLLBACK_SLOTS);
+    code = r.code;
+}
+
+static void check(void) {
+    rollback_reading r = rollback_check(book.bytes, book.length, table, ROLLBACK_TABLE, slots, ROLLBACK_SLOTS);
+    code = r.code;
+}
+
+static void assemble(void) {
+    rollback_assembly r = rollback_assemble(book.bytes, book.length, run.bytes, run.length, table, ROLLBACK_TABLE,
+                                            slots, ROLLBACK_SLOTS, plan, ROLLBACK_PLAN, legs, ROLLBACK_LEGS);
+    code = r.code;
+}
+
+static void assemble_legs(void) {
+    rollback_assembly r =
+        rollback_assemble_legs(book.bytes, book.length, run.bytes, run.length, table, ROLLBACK_TABLE,
+                               slots, ROLLBACK_SLOTS, plan, ROLLBACK_PLAN, structs, ROLLBACK_LEG_STRUCTS);
+    code = r.code;
+}
+
+static void write_book(void) {
+    rollback_writing r = rollback_write(device.n, device.m, device.items, table, ROLLBACK_TABLE,
+                                        slots, ROLLBACK_SLOTS, out, ROLLBACK_BOOK_MAX);
+    code = r.code;
+}
+
+static void ridge(void) {
+    rollback_lookup r = rollback_ridge(16, 2);
+    code = r.code;
+}
+
+static void (*caller)(void);
+
+/* Calls below a gap that a thread's own start and end don't reach across. */
+static void *below(void *p) {
+    volatile uint8_t gap[GAP];
+    size_t i = code % GAP;
+    gap[i] = 0;
+    caller();
+    code = gap[i];
+    return p;
+}
+
+/* The bytes of the stack from its top down to the lowest that a thread with f has changed. */
+static size_t depth(uint8_t *stack, void (*f)(void)) {
+    pthread_attr_t attributes;
+    pthread_t thread;
+    size_t i = 0;
+    memset(stack, PAINT, STACK);
+    caller = f;
+    if (pthread_attr_init(&attributes) != 0 || pthread_attr_setstack(&attributes, stack, STACK) != 0 ||
+        pthread_create(&thread, &attributes, below, NULL) != 0 || pthread_join(thread, NULL) != 0) {
+        fprintf(stderr, "no thread\n");
+        exit(2);
+    }
+    pthread_attr_destroy(&attributes);
+    while (i < STACK && stack[i] == PAINT)
+        i++;
+    return STACK - i;
+}
+
+int main(int argc, char **argv) {
+    static const struct {
+        const char *name;
+        void (*f)(void);
+    } calls[] = {
+        {"rollback_read", read_book}, {"rollback_check", check},
+        {"rollback_assemble", assemble}, {"rollback_assemble_legs", assemble_legs},
+        {"rollback_write", write_book}, {"rollback_ridge", ridge},
+    };
+    enum { CALLS = sizeof calls / sizeof calls[0] };
+    size_t deepest[CALLS] = {0}, empty, used, c;
+    void *stack;
+    int a;
+    if (argc < 3 || argc % 2 == 0) {
+        fprintf(stderr, "usage: %s BOOK RUN [BOOK RUN ...]\n", argv[0]);
+        return 2;
+    }
+    if (posix_memalign(&stack, 4096, STACK) != 0)
+        return 2;
+    empty = depth(stack, nothing);
+    for (a = 1; a < argc; a += 2) {
+        book = load(argv[a]);
+        run = load(argv[a + 1]);
+        device = rollback_read(book.bytes, book.length, table, ROLLBACK_TABLE, slots, ROLLBACK_SLOTS);
+        for (c = 0; c < CALLS; c++) {
+            /* Once here first, so that the linker's late binding is not counted. */
+            calls[c].f();
+            used = depth(stack, calls[c].f) - empty;
+            if (used > deepest[c])
+                deepest[c] = used;
+        }
+        free(book.bytes);
+        free(run.bytes);
+    }
+    for (c = 0; c < CALLS; c++)
+        printf("%s %lu\n", calls[c].name, (unsigned long)deepest[c]);
+    free(stack);
+    return 0;
+}

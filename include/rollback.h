@@ -1,0 +1,177 @@
+/*
+ * Roll-back plans for repeaters: the calls of libplanner.a.
+ *
+ * A book holds a device's transition table and its items, a run what was sent and heard; document 01
+ * fixes the bytes of both and every answer. That a call gives this answer, and leaves in each buffer
+ * what is said here, is proved of its source for all arguments. What no proof covers:
+ *
+ * - every length is true: so many elements are there to be read, and to be written where not const;
+ * - a buffer that a call writes overlaps no other of that call, and nobody else uses it meanwhile;
+ * - table is aligned as uint64_t is;
+ * - this header fits the archive, and the compiler's back end, the linker, memcpy and memset are right.
+ *
+ * Lengths count elements. Where a length is 0 the pointer may be null. Book and run may have any
+ * length. Lent buffers may be longer than stated; what lies past the stated length is neither read nor
+ * written. No call keeps anything: on buffers of their own, calls may run at the same time.
+ */
+#ifndef ROLLBACK_H
+#define ROLLBACK_H
+
+#include <stddef.h>
+#include <stdint.h>
+
+#ifdef __cplusplus
+extern "C" {
+#endif
+
+/* The least lengths of lent buffers, in elements. A shorter one is refused with code 1. */
+#define ROLLBACK_TABLE 2048      /* uint64_t: outcomes of state s, command c at s * m + c */
+#define ROLLBACK_SLOTS 2176      /* bytes: 64 slots of 34, see below */
+#define ROLLBACK_PLAN 256        /* bytes: a command each */
+#define ROLLBACK_LEGS 96         /* bytes: 32 legs of 3, item, upper point, lower point */
+#define ROLLBACK_LEG_STRUCTS 32  /* rollback_leg */
+#define ROLLBACK_BOOK_MAX 31110  /* bytes of the largest book; what writing's output must hold */
+
+/*
+ * A slot: k, r, 8 forward commands, 8 reverse commands, 8-byte masks phi and psi, little-endian.
+ * Of the commands the first k and r count; the others are 0.
+ */
+#define ROLLBACK_SLOT 34
+
+/* In fewest: no chain from that point. */
+#define ROLLBACK_NONE 65535
+
+/*
+ * The codes. The place is the offset of the faulty record's first byte for 2 to 8 in a book, and 0 for
+ * the others; rollback_write has places of its own. The order of judging is 1; then, record by record,
+ * 2, 3, 7, 4, 5, 6, the first faulty record deciding; then 8, 9, 10, 11.
+ */
+enum {
+    ROLLBACK_DONE = 0,
+    ROLLBACK_SHORT_BUFFER = 1,   /* a lent buffer is shorter than stated */
+    ROLLBACK_CUT_OFF = 2,        /* under 4 bytes of a record are left, or its body is cut off; an empty book */
+    ROLLBACK_KIND = 3,           /* a kind unknown in a book, or out of its order */
+    ROLLBACK_LENGTH = 4,         /* a body's length is not that of its kind */
+    ROLLBACK_FIELD = 5,          /* a field is outside its range */
+    ROLLBACK_NOT_RISING = 6,     /* a move doesn't rise */
+    ROLLBACK_TOO_MANY_ITEMS = 7, /* a 65th item */
+    ROLLBACK_NOT_ACCEPTED = 8,   /* an item is not accepted; the first such one */
+    ROLLBACK_RUN = 9,            /* the run isn't exactly one record, or a command or mask is outside m or n */
+    ROLLBACK_NO_HISTORY = 10,    /* nothing can have happened that fits the run */
+    ROLLBACK_NO_CHAIN = 11       /* no items lead from the run's end back to its start */
+};
+
+/* From reading and checking: n states, m commands, the number of items; all three 0 on a refusal. */
+typedef struct {
+    uint64_t code, place, n, m, items;
+} rollback_reading;
+
+/*
+ * From assembling: the numbers of commands and legs, 0 on a refusal; and for each point of the run the
+ * fewest commands that lead from it to point 0, ROLLBACK_NONE where no chain does or the point is past
+ * the run's end. On refusals they are all ROLLBACK_NONE, except that code 11 gives them true.
+ */
+typedef struct {
+    uint64_t code, place, commands, legs;
+    uint16_t fewest[33];
+} rollback_assembly;
+
+/* From writing: the book's length in bytes, 0 on a refusal. */
+typedef struct {
+    uint64_t code, place, length;
+} rollback_writing;
+
+/* From the ridge repeater's table: the outcomes, 0 on a refusal. */
+typedef struct {
+    uint64_t code, place, mask;
+} rollback_lookup;
+
+/* One leg of a plan: the item that leads from the upper point to the lower one. */
+typedef struct {
+    uint8_t item, upper, lower;
+} rollback_leg;
+
+/*
+ * Reads a book.
+ *
+ * Takes the book; lends table and slots. Codes: 0 to 7.
+ * 0        table: entries below n * m are the outcomes, 0 where the book has no move; the others stay.
+ *          slots: the items, in the book's order; bytes of slots past the last item stay.
+ * 1 to 7   both untouched.
+ */
+rollback_reading rollback_read(
+    const uint8_t *book, size_t book_len,
+    uint64_t *table, size_t table_len,
+    uint8_t *slots, size_t slots_len);
+
+/*
+ * Reads a book and checks that every item is accepted: from wherever its forward commands can lead to in
+ * phi from a start in psi, its reverse commands are never stuck and always end in that start.
+ *
+ * Takes the book; lends table and slots. Codes: 0 to 8.
+ * 0, 8     table and slots as after reading with code 0; with 8 the three numbers are 0 all the same.
+ * 1 to 7   both untouched.
+ */
+rollback_reading rollback_check(
+    const uint8_t *book, size_t book_len,
+    uint64_t *table, size_t table_len,
+    uint8_t *slots, size_t slots_len);
+
+/*
+ * Checks a book and assembles from its items the plan that undoes a run: the chain with fewest commands;
+ * among equals, the one with the lower item number at the first difference.
+ *
+ * Takes book and run; lends table, slots, plan and legs, these as bytes. Codes: 0 to 11.
+ * 0        table and slots as after reading; plan: its first `commands` bytes are the commands to send,
+ *          in order; legs: its first 3 * `legs` bytes are the legs in that order; the other bytes stay.
+ * 1 to 7   all untouched.
+ * 8 to 11  table and slots as after reading; plan and legs untouched.
+ */
+rollback_assembly rollback_assemble(
+    const uint8_t *book, size_t book_len,
+    const uint8_t *run, size_t run_len,
+    uint64_t *table, size_t table_len,
+    uint8_t *slots, size_t slots_len,
+    uint8_t *plan, size_t plan_len,
+    uint8_t *legs, size_t legs_len);
+
+/* The same with the legs as structs: the first `legs` are written on code 0, the others stay. */
+rollback_assembly rollback_assemble_legs(
+    const uint8_t *book, size_t book_len,
+    const uint8_t *run, size_t run_len,
+    uint64_t *table, size_t table_len,
+    uint8_t *slots, size_t slots_len,
+    uint8_t *plan, size_t plan_len,
+    rollback_leg *legs, size_t legs_len);
+
+/*
+ * Writes the book of a table and slots. It judges the format, not whether items are accepted.
+ *
+ * Takes n, m, the number of items, table and slots; lends out. Entries from n * m on and slots past the
+ * items are ignored. Codes, in this order:
+ * 1, place 0      a buffer is shorter than stated, table and slots too.
+ * 5, place 0      n is outside 1 to 64 or m outside 1 to 32.
+ * 7, place 0      over 64 items.
+ * 5, an index     the first entry with a bit at n or above.
+ * 5, a number     the first slot that no item has: k outside 1 to 8, r over 8, a command outside m, a mask
+ *                 with a bit at n or above, or an unused command byte that isn't 0.
+ * 0, place 0      out: its first `length` bytes are the book; the others stay.
+ * On a refusal out is untouched.
+ */
+rollback_writing rollback_write(
+    uint64_t n, uint64_t m, uint64_t items,
+    const uint64_t *table, size_t table_len,
+    const uint8_t *slots, size_t slots_len,
+    uint8_t *out, size_t out_len);
+
+/*
+ * The outcomes of a command of the ridge repeater (64 states, 16 commands) in a state.
+ * Codes: 0; 5 at place 0 for a state over 63 or a command over 15.
+ */
+rollback_lookup rollback_ridge(uint64_t state, uint64_t command);
+
+#ifdef __cplusplus
+}
+#endif
+
+#endif

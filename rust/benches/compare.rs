@@ -1,0 +1,277 @@
+//! The verified library beside the plain program: the time of each call, how checking grows, and
+//! the library's stack use. Prints tables.
+
+use std::hint::black_box;
+use std::path::Path;
+use std::process::Command;
+use std::time::{Duration, Instant};
+use std::{env, fs, process};
+
+use rollback::calls;
+use rollback_cases::{
+    branching_book, branching_run, grown_book, largest_book, largest_run, q5_run, q_book,
+    ridge_book, ridge_run,
+};
+
+/// A batch of calls takes at least this long.
+const BATCH: Duration = Duration::from_millis(2);
+/// Batches of each of the two, in turn.
+const SAMPLES: usize = 51;
+
+/// What both are lent.
+struct Lent {
+    book: Vec<u8>,
+    run: Vec<u8>,
+    table: Vec<u64>,
+    slots: Vec<u8>,
+    plan: Vec<u8>,
+    legs: Vec<u8>,
+    structs: Vec<calls::Leg>,
+    plain_structs: Vec<rollback_plain::Leg>,
+    out: Vec<u8>,
+    /// n, m and items of the book.
+    device: [u64; 3],
+}
+
+impl Lent {
+    fn new(book: Vec<u8>, run: Vec<u8>) -> Lent {
+        let mut table = vec![0; calls::TABLE];
+        let mut slots = vec![0; calls::SLOTS];
+        let r = calls::check(&book, &mut table, &mut slots);
+        assert_eq!(r.code, 0, "the book is accepted");
+        Lent {
+            book,
+            run,
+            table,
+            slots,
+            plan: vec![0; calls::PLAN],
+            legs: vec![0; calls::LEGS],
+            structs: vec![
+                calls::Leg {
+                    item: 0,
+                    upper: 0,
+                    lower: 0
+                };
+                calls::LEG_STRUCTS
+            ],
+            plain_structs: vec![Default::default(); calls::LEG_STRUCTS],
+            out: vec![0; calls::BOOK_MAX],
+            device: [r.n, r.m, r.items],
+        }
+    }
+}
+
+/// A call, of the library and of the plain program. Each gives its code.
+struct Pair {
+    name: &'static str,
+    verified: fn(&mut Lent) -> u64,
+    plain: fn(&mut Lent) -> u64,
+}
+
+const CHECK: Pair = Pair {
+    name: "check",
+    verified: |l| calls::check(&l.book, &mut l.table, &mut l.slots).code,
+    plain: |l| rollback_plain::check(&l.book, &mut l.table, &mut l.slots).code,
+};
+
+#[rustfmt::skip]
+const PAIRS: [Pair; 5] = [
+    Pair {
+        name: "read",
+        verified: |l| calls::read(&l.book, &mut l.table, &mut l.slots).code,
+        plain: |l| rollback_plain::read(&l.book, &mut l.table, &mut l.slots).code,
+    },
+    CHECK,
+    Pair {
+        name: "assemble",
+        verified: |l| calls::assemble(
+            &l.book, &l.run, &mut l.table, &mut l.slots, &mut l.plan, &mut l.legs,
+        ).code,
+        plain: |l| rollback_plain::assemble(
+            &l.book, &l.run, &mut l.table, &mut l.slots, &mut l.plan, &mut l.legs,
+        ).code,
+    },
+    Pair {
+        name: "assemble_legs",
+        verified: |l| calls::assemble_legs(
+            &l.book, &l.run, &mut l.table, &mut l.slots, &mut l.plan, &mut l.structs,
+        ).code,
+        plain: |l| rollback_plain::assemble_legs(
+            &l.book, &l.run, &mut l.table, &mut l.slots, &mut l.plan, &mut l.plain_structs,
+        ).code,
+    },
+    Pair {
+        name: "write",
+        verified: |l| {
+            let [n, m, items] = l.device;
+            calls::write(n, m, items, &l.table, &l.slots, &mut l.out).code
+        },
+        plain: |l| {
+            let [n, m, items] = l.device;
+            rollback_plain::write(n, m, items, &l.table, &l.slots, &mut l.out).code
+        },
+    },
+];
+
+const RIDGE: Pair = Pair {
+    name: "ridge, all 1,024 lookups",
+    verified: |_| every_entry(|state, command| calls::ridge(state, command).code),
+    plain: |_| every_entry(|state, command| rollback_plain::ridge(state, command).code),
+};
+
+fn every_entry(lookup: fn(u64, u64) -> u64) -> u64 {
+    (0..1_024)
+        .map(|entry| black_box(lookup(entry / 16, entry % 16)))
+        .sum()
+}
+
+/// The time of one batch.
+fn batch(call: fn(&mut Lent) -> u64, lent: &mut Lent, calls: u32) -> Duration {
+    let start = Instant::now();
+    for _ in 0..calls {
+        assert_eq!(black_box(call(black_box(lent))), 0);
+    }
+    start.elapsed()
+}
+
+/// So many calls that a batch takes long enough.
+fn batch_size(call: fn(&mut Lent) -> u64, lent: &mut Lent) -> u32 {
+    let mut calls = 1;
+    while batch(call, lent, calls) < BATCH {
+        calls *= 2;
+    }
+    calls
+}
+
+/// The times of one call in nanoseconds, sorted.
+struct Times(Vec<f64>);
+
+impl Times {
+    /// The time that this share of the samples doesn't exceed.
+    fn at(&self, share: f64) -> f64 {
+        self.0[(share * (self.0.len() - 1) as f64).round() as usize]
+    }
+
+    fn shown(&self) -> String {
+        let [low, median, high] = [0.1, 0.5, 0.9].map(|share| self.at(share));
+        let (unit, name) = match median {
+            m if m < 1e3 => (1.0, "ns"),
+            m if m < 1e6 => (1e3, "µs"),
+            _ => (1e6, "ms"),
+        };
+        let [low, median, high] = [low, median, high].map(|time| time / unit);
+        format!("{median:.2} {name} ({low:.2} to {high:.2})")
+    }
+}
+
+/// Both, batch by batch in turn, each first every other time; then a line of a table.
+fn compare(pair: &Pair, lent: &mut Lent, title: &str) {
+    let both = [pair.verified, pair.plain];
+    let sizes = both.map(|call| batch_size(call, lent));
+    let mut times = [Vec::new(), Vec::new()];
+    for sample in 0..SAMPLES {
+        for which in [sample % 2, 1 - sample % 2] {
+            let time = batch(both[which], lent, sizes[which]);
+            times[which].push(time.as_nanos() as f64 / f64::from(sizes[which]));
+        }
+    }
+    let [verified, plain] = times.map(|mut times| {
+        times.sort_by(f64::total_cmp);
+        Times(times)
+    });
+    let ratio = verified.at(0.5) / plain.at(0.5);
+    println!(
+        "| {title} | {} | {} | {ratio:.2} |",
+        verified.shown(),
+        plain.shown()
+    );
+}
+
+fn heading(title: &str, first: &str) {
+    println!("\n## {title}\n");
+    println!("| {first} | verified: median (10 % to 90 %) | plain | ratio |");
+    println!("|---|---|---|---|");
+}
+
+fn growth(title: &str, first: &str, sizes: &[usize], book: fn(usize) -> Vec<u8>) {
+    heading(title, first);
+    for &size in sizes {
+        compare(
+            &CHECK,
+            &mut Lent::new(book(size), Vec::new()),
+            &size.to_string(),
+        );
+    }
+}
+
+/// Builds `c/stack.c` with the archive and runs it on these books and runs.
+fn stack(books: &[(&str, Vec<u8>, Vec<u8>)]) {
+    let folder = env::temp_dir().join(format!("rollback-stack-{}", process::id()));
+    fs::create_dir(&folder).unwrap();
+    let root = Path::new(env!("CARGO_MANIFEST_DIR")).join("..");
+    let program = folder.join("stack");
+    let built = Command::new(env::var_os("CC").unwrap_or("cc".into()))
+        .args(["-std=c99", "-O2", "-I"])
+        .arg(root.join("include"))
+        .arg("-o")
+        .arg(&program)
+        .arg(root.join("c/stack.c"))
+        .arg(env!("ROLLBACK_ARCHIVE"))
+        .arg("-lpthread")
+        .status();
+    assert!(built.unwrap().success(), "c/stack.c builds");
+    let mut run = Command::new(&program);
+    for (number, (_, book, sent)) in books.iter().enumerate() {
+        for (bytes, kind) in [(book, "book"), (sent, "run")] {
+            let file = folder.join(format!("{number}.{kind}"));
+            fs::write(&file, bytes).unwrap();
+            run.arg(file);
+        }
+    }
+    let output = run.output().unwrap();
+    fs::remove_dir_all(&folder).unwrap();
+    assert!(output.status.success(), "c/stack.c runs");
+    println!("\n## Deepest stack use of each call over these books, in bytes\n");
+    println!("| call | bytes |\n|---|---|");
+    for line in String::from_utf8(output.stdout).unwrap().lines() {
+        println!("| {} |", line.replace(' ', " | "));
+    }
+}
+
+fn main() {
+    let books = [
+        ("a, largest", largest_book(), largest_run()),
+        ("b, branching", branching_book(), branching_run()),
+        ("c, ridge", ridge_book(), ridge_run()),
+        ("d, Q", q_book(), q5_run()),
+    ];
+    println!("Times of one call, from {SAMPLES} batches of each program in turn, both built for");
+    println!("release, on the same buffers, which are not cleared between calls.");
+    heading("The library and the plain program", "book, call");
+    for (name, book, run) in &books {
+        let mut lent = Lent::new(book.clone(), run.clone());
+        for pair in &PAIRS {
+            compare(pair, &mut lent, &format!("{name}: {}", pair.name));
+        }
+    }
+    compare(&RIDGE, &mut Lent::new(q_book(), q5_run()), RIDGE.name);
+    growth(
+        "Checking by states (64 items, k = r = 8)",
+        "n",
+        &[4, 8, 16, 32, 64],
+        |n| grown_book(n, 64, 8, 8),
+    );
+    growth(
+        "Checking by items (n = 64, k = r = 8)",
+        "items",
+        &[1, 4, 16, 32, 64],
+        |items| grown_book(64, items, 8, 8),
+    );
+    growth(
+        "Checking by length (n = 64, 64 items, k = r)",
+        "k + r",
+        &[2, 4, 8, 12, 16],
+        |length| grown_book(64, 64, length / 2, length / 2),
+    );
+    stack(&books);
+}

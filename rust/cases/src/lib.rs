@@ -1,0 +1,18 @@
+//! Cases for programs written from document 01: the answers of a second
+//! program (`vectors`), random inputs that one seed makes again (`random`),
+//! and books for measuring (`books`).
+
+#![forbid(unsafe_code)]
+
+pub mod books;
+pub mod device;
+pub mod random;
+pub mod rng;
+pub mod vectors;
+
+pub use books::{
+    branching_book, branching_run, grown_book, largest_book, largest_run, q5_run, q_book,
+    ridge_book, ridge_run,
+};
+pub use random::{input, Input};
+pub use vectors::{assemble_cases, book_cases, ridge_masks, write_cases};

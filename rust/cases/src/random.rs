@@ -1,0 +1,848 @@
+//! Random inputs for comparing two programs: one seed, one input. Each input
+//! serves every call; its parts are independent enough that each call sees
+//! all its codes often.
+
+use crate::books::permutations;
+use crate::device::{
+    all, book_records, item_record, move_record, record, ridge_device, run_bytes, slot_bytes,
+    states, Device, Item,
+};
+use crate::rng::Rng;
+
+/// What one seed gives to every call.
+#[derive(Clone, Debug, PartialEq, Eq)]
+pub struct Input {
+    pub seed: u64,
+
+    /// For reading, checking and assembling.
+    pub book: Vec<u8>,
+    pub run: Vec<u8>,
+    /// The lent buffers and what they hold before the call. Their lengths are
+    /// those stated, or longer, or one of them too short.
+    pub table: Vec<u64>,
+    pub slots: Vec<u8>,
+    pub plan: Vec<u8>,
+    pub legs: Vec<u8>,
+    /// The legs where they are structs: item, upper, lower.
+    pub leg_structs: Vec<[u8; 3]>,
+
+    /// For writing.
+    pub n: u64,
+    pub m: u64,
+    pub items: u64,
+    pub write_table: Vec<u64>,
+    pub write_slots: Vec<u8>,
+    pub out: Vec<u8>,
+
+    /// For the ridge lookup.
+    pub state: u64,
+    pub command: u64,
+}
+
+/// The input of a seed, the same each time.
+pub fn input(seed: u64) -> Input {
+    let rng = &mut Rng::new(seed);
+    let largest = rng.below(150) == 0;
+    let device = if largest {
+        permutations(rng, 64, 32)
+    } else {
+        random_device(rng)
+    };
+    let story = random_story(rng, &device);
+    let mut items = if largest {
+        largest_items(rng, &device, &story)
+    } else {
+        random_items(rng, &device, &story)
+    };
+    if rng.chance(9) {
+        spoil_item(rng, &device, &mut items);
+    }
+
+    let mut records = book_records(&device, &items);
+    let mut run = run_bytes(&story.commands, &story.sightings);
+    let mut book = None;
+    match rng.below(100) {
+        0..=25 => {
+            for _ in 0..1 + rng.below(5) / 3 {
+                damage_records(rng, &device, &mut records);
+            }
+        }
+        26..=33 => {
+            if rng.chance(30) {
+                damage_records(rng, &device, &mut records);
+            }
+            let mut bytes = records.concat();
+            damage_bytes(rng, &mut bytes);
+            book = Some(bytes);
+        }
+        34..=41 => damage_run(rng, &device, &mut run),
+        _ => {}
+    }
+    if rng.below(250) == 0 {
+        book = Some((0..rng.below(60)).map(|_| rng.byte()).collect());
+    }
+    let book = book.unwrap_or_else(|| records.concat());
+
+    let short = if rng.chance(7) { rng.within(1, 4) } else { 0 };
+    let table = lent_length(rng, 2048, short == 1);
+    let slots = lent_length(rng, 2176, short == 2);
+    let plan = lent_length(rng, 256, short == 3);
+    let legs = lent_length(rng, 96, short == 4);
+    let leg_structs = lent_length(rng, 32, short == 4);
+
+    let writing = Writing::new(rng, &device, &items);
+    let (state, command) = match rng.below(10) {
+        0..=5 => (rng.below(64) as u64, rng.below(16) as u64),
+        6 => (rng.within(60, 70) as u64, rng.within(0, 20) as u64),
+        7 => (rng.below(70) as u64, rng.within(14, 18) as u64),
+        8 => (huge(rng), rng.below(16) as u64),
+        _ => (rng.below(64) as u64, huge(rng)),
+    };
+
+    let filler = &mut Rng::new(seed ^ 0x5eed_f111);
+    Input {
+        seed,
+        book,
+        run,
+        table: (0..table).map(|_| filler.word()).collect(),
+        slots: (0..slots).map(|_| filler.byte()).collect(),
+        plan: (0..plan).map(|_| filler.byte()).collect(),
+        legs: (0..legs).map(|_| filler.byte()).collect(),
+        leg_structs: (0..leg_structs)
+            .map(|_| [filler.byte(), filler.byte(), filler.byte()])
+            .collect(),
+        n: writing.n,
+        m: writing.m,
+        items: writing.items,
+        write_table: writing.table,
+        write_slots: writing.slots,
+        out: writing.out,
+        state,
+        command,
+    }
+}
+
+/// A length as stated, longer, or too short.
+fn lent_length(rng: &mut Rng, stated: usize, short: bool) -> usize {
+    match (short, rng.below(8)) {
+        (true, 0) => rng.below(stated),
+        (true, _) => stated - 1,
+        (false, 0) => stated + rng.within(1, 40),
+        (false, _) => stated,
+    }
+}
+
+/// A number whose low bits may be in range though it is not.
+fn huge(rng: &mut Rng) -> u64 {
+    match rng.below(5) {
+        0 => u64::MAX - rng.below(3) as u64,
+        1 => rng.word(),
+        2 => 1 << rng.within(6, 63),
+        3 => (1 << rng.pick(&[8, 16, 32, 63])) + rng.below(20) as u64,
+        _ => rng.within(64, 300) as u64,
+    }
+}
+
+// Devices
+
+fn random_device(rng: &mut Rng) -> Device {
+    let n = match rng.below(100) {
+        0..=54 => rng.within(1, 5),
+        55..=81 => rng.within(6, 12),
+        82..=92 => rng.within(13, 40),
+        _ => rng.within(60, 64),
+    };
+    let m = match rng.below(100) {
+        0..=69 => rng.within(1, 6),
+        70..=93 => rng.within(7, 12),
+        _ => rng.within(24, 32),
+    };
+    match rng.below(100) {
+        0..=5 => ridge_device(),
+        6..=24 => permutations(rng, n, m.next_multiple_of(2)),
+        25..=39 => blocks(rng, n, m),
+        40..=44 => {
+            let mut device = Device::empty(n, m);
+            for entry in &mut device.table {
+                *entry = rng.word() & rng.word() & all(n);
+            }
+            device
+        }
+        _ => mixed(rng, n, m),
+    }
+}
+
+/// States in blocks of b. A third of the commands leave only the block known,
+/// a third set the place in the block, a third go round the blocks.
+fn blocks(rng: &mut Rng, n: usize, m: usize) -> Device {
+    let b = rng.within(2, 4);
+    let count = n.div_ceil(b);
+    let mut device = Device::empty(n, m);
+    for c in 0..m {
+        let (kind, step) = (rng.below(3), rng.below(count));
+        for s in 0..n {
+            let base = s / b * b;
+            let block = ((1u64 << b) - 1) << base & all(n);
+            let mask = match kind {
+                0 => block,
+                1 => 1 << (base + (c + step) % b).min(n - 1),
+                _ => 1 << ((base + step * b) % (count * b) + s % b).min(n - 1),
+            };
+            device.set(s, c, mask);
+        }
+    }
+    device
+}
+
+/// Every command of a kind of its own.
+fn mixed(rng: &mut Rng, n: usize, m: usize) -> Device {
+    let mut device = Device::empty(n, m);
+    let mut c = 0;
+    while c < m {
+        let domain = if rng.chance(70) {
+            all(n)
+        } else {
+            rng.word() | rng.word()
+        };
+        match rng.below(10) {
+            // To one state from everywhere.
+            0..=2 => {
+                let to = rng.below(n);
+                states(domain & all(n)).for_each(|s| device.set(s, c, 1 << to));
+            }
+            // A permutation, with its inverse where there is room.
+            3..=5 => {
+                let mut to: Vec<usize> = (0..n).collect();
+                rng.shuffle(&mut to);
+                for s in states(domain & all(n)) {
+                    device.set(s, c, 1 << to[s]);
+                    if c + 1 < m {
+                        device.set(to[s], c + 1, 1 << s);
+                    }
+                }
+                if c + 1 < m {
+                    device.inverse[c] = Some(c as u8 + 1);
+                    if domain & all(n) == all(n) {
+                        device.inverse[c + 1] = Some(c as u8);
+                    }
+                    c += 1;
+                }
+            }
+            6 => (0..n).for_each(|s| device.set(s, c, 1 << s)),
+            // A function.
+            7 => states(domain & all(n)).for_each(|s| device.set(s, c, 1 << rng.below(n))),
+            // One to three outcomes.
+            8 => states(domain & all(n)).for_each(|s| {
+                let mask = 1 << rng.below(n) | 1 << rng.below(n) | 1 << rng.below(n);
+                device.set(s, c, mask)
+            }),
+            // From one state only, to several.
+            _ => device.set(rng.below(n), c, (rng.word() | 1) & all(n)),
+        }
+        c += 1;
+    }
+    device
+}
+
+// Runs
+
+struct Story {
+    commands: Vec<u8>,
+    sightings: Vec<u64>,
+    possible: Vec<u64>,
+    /// How often items try to have one more reverse command.
+    padding: usize,
+}
+
+fn random_story(rng: &mut Rng, device: &Device) -> Story {
+    let everything = all(device.n);
+    let length = match rng.below(100) {
+        0..=4 => 0,
+        5..=34 => rng.within(1, 4),
+        35..=69 => rng.within(5, 12),
+        70..=89 => rng.within(13, 31),
+        _ => 32,
+    };
+    // A true history, which often goes round the same few commands.
+    let period = if rng.chance(50) { rng.within(1, 4) } else { 32 };
+    let mut trail = vec![rng.below(device.n)];
+    let mut commands: Vec<u8> = Vec::new();
+    while commands.len() < length {
+        let at = trail[commands.len()];
+        let able = |&c: &u8| device.outcomes(at, c) != 0;
+        let wanted = commands
+            .len()
+            .checked_sub(period)
+            .map(|j| commands[j])
+            .filter(able);
+        let tried = (0..12).map(|_| rng.below(device.m) as u8).find(able);
+        let Some(c) = wanted.or(tried) else { break };
+        trail.push(rng.state_of(device.outcomes(at, c)));
+        commands.push(c);
+    }
+
+    let style = rng.below(4); // how much is heard
+    let mut sightings: Vec<u64> = trail
+        .iter()
+        .map(|&s| match if style == 3 { rng.below(3) } else { style } {
+            0 => everything,
+            1 => 1 << s,
+            _ => 1 << s | rng.word() & rng.word() & everything,
+        })
+        .collect();
+    if style == 0 && rng.chance(60) {
+        sightings[0] = 1 << trail[0];
+    }
+
+    // Now and then no history, or perhaps none.
+    match rng.below(100) {
+        0..=2 => *sightings.last_mut().unwrap() = 0,
+        3..=4 => sightings[rng.below(trail.len())] = 0,
+        5..=7 => sightings[rng.below(trail.len())] &= rng.word(),
+        8..=9 if !commands.is_empty() => {
+            let at = rng.below(commands.len());
+            commands[at] = rng.below(device.m) as u8;
+        }
+        10..=11 if !commands.is_empty() => {
+            let at = rng.within(1, commands.len());
+            sightings[at] &= !device.after(sightings[at - 1], commands[at - 1]);
+        }
+        _ => {}
+    }
+    let possible = device.possible(&commands, &sightings);
+    let padding = if rng.chance(8) { 40 } else { rng.below(4) };
+    Story {
+        commands,
+        sightings,
+        possible,
+        padding,
+    }
+}
+
+// Items
+
+fn random_items(rng: &mut Rng, device: &Device, story: &Story) -> Vec<Item> {
+    let top = story.commands.len();
+    let mut items: Vec<Item> = Vec::new();
+
+    // A cover of the run from its last point down, where one can be found.
+    let longest = rng.within(1, 8);
+    let mut upper = top;
+    while upper > 0 && items.len() < 64 {
+        let fitting = items.iter().find(|item| fits(story, item, upper));
+        if let Some(item) = fitting.filter(|_| rng.chance(60)) {
+            upper -= item.forward.len();
+            continue;
+        }
+        let found = (0..6).find_map(|_| {
+            let k = rng.within(1, longest.min(upper));
+            fitting_item(rng, device, story, upper, k)
+        });
+        let Some(item) = found else { break };
+        upper -= item.forward.len();
+        items.push(item);
+    }
+
+    // Competitors, near misses, and items of other commands.
+    let more = match rng.below(10) {
+        0..=3 => rng.below(4),
+        4..=7 => rng.below(12),
+        8 => rng.below(30),
+        _ => 64,
+    };
+    for _ in 0..more {
+        let item = if top > 0 && rng.chance(80) {
+            let upper = rng.within(1, top);
+            let longest = if rng.chance(70) { 3 } else { 8 };
+            let k = rng.within(1, upper.min(longest));
+            let mut item = fitting_item(rng, device, story, upper, k);
+            if let Some(item) = item.as_mut().filter(|_| rng.chance(12)) {
+                // Still accepted, but it may no longer fit.
+                item.phi &= rng.word() | rng.word();
+                item.psi &= rng.word() | rng.word();
+            }
+            item
+        } else {
+            other_item(rng, device)
+        };
+        items.extend(item);
+        if !items.is_empty() && rng.chance(8) {
+            let again = rng.pick(&items).clone();
+            items.push(again);
+        }
+    }
+    rng.shuffle(&mut items);
+    items.truncate(64);
+    items
+}
+
+fn fits(story: &Story, item: &Item, upper: usize) -> bool {
+    let k = item.forward.len();
+    k <= upper
+        && story.commands[upper - k..upper] == item.forward
+        && story.possible[upper] & !item.phi == 0
+        && story.possible[upper - k] & !item.psi == 0
+}
+
+/// An accepted item that fits from a point over k commands, if one is found.
+fn fitting_item(
+    rng: &mut Rng,
+    device: &Device,
+    story: &Story,
+    upper: usize,
+    k: usize,
+) -> Option<Item> {
+    let forward = story.commands[upper - k..upper].to_vec();
+    let phi = match rng.below(3) {
+        0 => all(device.n),
+        1 => story.possible[upper],
+        _ => story.possible[upper] | rng.word() & rng.word() & all(device.n),
+    };
+    let need = story.possible[upper - k];
+    let reverse = find_reverse(rng, device, &forward, phi, need, story.padding)?;
+    let psi = match rng.below(3) {
+        0 => need,
+        1 => device.undone_starts(&forward, &reverse, phi),
+        _ => need | rng.word() & device.undone_starts(&forward, &reverse, phi),
+    };
+    Some(Item {
+        forward,
+        reverse,
+        phi,
+        psi,
+    })
+}
+
+/// Reverse commands that undo the forward ones from all needed starts.
+fn find_reverse(
+    rng: &mut Rng,
+    device: &Device,
+    forward: &[u8],
+    phi: u64,
+    need: u64,
+    padding: usize,
+) -> Option<Vec<u8>> {
+    let good = |reverse: &[u8]| states(need).all(|s| device.undone(s, forward, reverse, phi));
+    let m = device.m;
+    let tries = if device.n > 16 { 20 } else { 60 };
+    let inverse: Option<Vec<u8>> = forward
+        .iter()
+        .rev()
+        .map(|&c| device.inverse[usize::from(c)])
+        .collect();
+    let mut found = inverse.filter(|reverse| rng.chance(70) && good(reverse));
+    if found.is_none() && good(&[]) {
+        found = Some(Vec::new());
+    }
+    if found.is_none() {
+        let from = rng.below(m);
+        found = (0..m)
+            .map(|c| vec![((from + c) % m) as u8])
+            .find(|reverse| good(reverse));
+    }
+    for _ in 0..tries {
+        if found.is_some() {
+            break;
+        }
+        let count = rng.within(2, 4);
+        let reverse: Vec<u8> = (0..count).map(|_| rng.below(m) as u8).collect();
+        found = Some(reverse).filter(|reverse| good(reverse));
+    }
+    let mut reverse = found?;
+    // Often not the shortest one.
+    for _ in 0..padding {
+        let mut longer = reverse.clone();
+        let c = rng.below(m) as u8;
+        let at = rng.within(0, longer.len());
+        longer.insert(at, c);
+        if let Some(back) = device.inverse[usize::from(c)].filter(|_| rng.chance(70)) {
+            longer.insert(at + 1, back);
+        }
+        if longer.len() <= 8 && good(&longer) {
+            reverse = longer;
+        }
+    }
+    Some(reverse)
+}
+
+/// An accepted item of any commands; psi is narrowed until it is.
+fn other_item(rng: &mut Rng, device: &Device) -> Option<Item> {
+    let commands = |rng: &mut Rng, low, high| -> Vec<u8> {
+        let high = if rng.chance(80) { 3 } else { high };
+        (0..rng.within(low, high))
+            .map(|_| rng.below(device.m) as u8)
+            .collect()
+    };
+    let forward = commands(rng, 1, 8);
+    let reverse = commands(rng, 0, 8);
+    let phi = [all(device.n), rng.word() & all(device.n), 0][rng.below(5) / 2];
+    let good = device.undone_starts(&forward, &reverse, phi);
+    let psi = if rng.chance(50) {
+        good
+    } else {
+        good & rng.word()
+    };
+    Some(Item {
+        forward,
+        reverse,
+        phi,
+        psi,
+    })
+}
+
+/// Makes an item, or a new one, likely to be turned down.
+fn spoil_item(rng: &mut Rng, device: &Device, items: &mut Vec<Item>) {
+    for _ in 0..20 {
+        let mut item = match items.len() {
+            0 => other_item(rng, device).unwrap(),
+            count => items[rng.below(count)].clone(),
+        };
+        match rng.below(7) {
+            // Where the command can't be carried out everywhere, stuck.
+            5..=6 if item.reverse.len() < 8 => {
+                let at = rng.within(0, item.reverse.len());
+                item.reverse.insert(at, rng.below(device.m) as u8);
+            }
+            0 => item.psi |= 1 << rng.below(device.n),
+            1 => item.phi |= 1 << rng.below(device.n),
+            2 => item.reverse.truncate(item.reverse.len().saturating_sub(1)),
+            3 if !item.reverse.is_empty() => {
+                let at = rng.below(item.reverse.len());
+                item.reverse[at] = rng.below(device.m) as u8;
+            }
+            _ => {
+                item.phi = all(device.n);
+                item.psi = all(device.n);
+            }
+        }
+        if !device.accepts(&item) {
+            let at = rng.within(0, items.len());
+            items.insert(at, item);
+            items.truncate(64);
+            return;
+        }
+    }
+}
+
+/// 64 items with k = r = 8, some of which fit the run.
+fn largest_items(rng: &mut Rng, device: &Device, story: &Story) -> Vec<Item> {
+    let inverse = |c: &u8| device.inverse[usize::from(*c)].unwrap();
+    (0..64)
+        .map(|_| {
+            let upper = rng.within(0, story.commands.len());
+            let forward: Vec<u8> = match upper.checked_sub(8) {
+                Some(lower) => story.commands[lower..upper].to_vec(),
+                None => (0..8).map(|_| rng.below(device.m) as u8).collect(),
+            };
+            let reverse = forward.iter().rev().map(inverse).collect();
+            Item {
+                forward,
+                reverse,
+                phi: u64::MAX,
+                psi: u64::MAX,
+            }
+        })
+        .collect()
+}
+
+// Damage
+
+/// Changes one record, or the row of records, against the rules.
+fn damage_records(rng: &mut Rng, device: &Device, records: &mut Vec<Vec<u8>>) {
+    let any = rng.below(records.len());
+    let moves: Vec<usize> = (0..records.len())
+        .filter(|&at| kind(&records[at]) == 2)
+        .collect();
+    let items: Vec<usize> = (0..records.len())
+        .filter(|&at| kind(&records[at]) == 3)
+        .collect();
+    let at = match rng.below(6) {
+        0 => 0,
+        1..=2 if !moves.is_empty() => *rng.pick(&moves),
+        3..=5 if !items.is_empty() => *rng.pick(&items),
+        _ => any,
+    };
+    match rng.below(16) {
+        // 3: another kind.
+        0 => {
+            let other = *rng.pick(&[0, 1, 2, 3, 4, 5, 255, 257, 258, 259, 513, 0x0300, 0xffff]);
+            set_kind(&mut records[at], other);
+        }
+        // 3: out of order.
+        1 => {
+            let (from, to) = (any, rng.below(records.len()));
+            let moved = records.remove(from);
+            records.insert(to, moved);
+        }
+        2 => {
+            let state = rng.below(device.n) as u8;
+            let extra = match rng.below(4) {
+                0 => record(1, &[device.n as u8, device.m as u8]),
+                1 => record(4, &[0; 9]),
+                2 => run_bytes(&[], &[all(device.n)]),
+                _ => move_record(state, 0, 1),
+            };
+            records.push(extra);
+        }
+        // 4: a body of another length.
+        3..=5 => {
+            let body = records[at].len() - 4;
+            let length = *rng.pick(&[0, 1, 2, body.saturating_sub(1), body + 1, body + 8, 10, 18]);
+            records[at].resize(4 + length, rng.pick(&[0, 1, 7]).to_owned());
+            set_length(&mut records[at], length);
+        }
+        // 5: a field.
+        6..=9 => spoil_field(rng, device, &mut records[at]),
+        // 6: moves that do not rise.
+        10..=11 => match rng.below(3) {
+            0 if moves.len() > 1 => {
+                let low = rng.below(moves.len() - 1);
+                records.swap(moves[low], moves[rng.within(low + 1, moves.len() - 1)]);
+            }
+            1 if !moves.is_empty() => {
+                let at = *rng.pick(&moves);
+                let mut twice = records[at].clone();
+                twice[6] ^= rng.byte() & 1;
+                records.insert(at + 1, twice);
+            }
+            _ => {
+                let at = 1 + moves.len();
+                records.insert(at, move_record(0, 0, 1));
+                records.insert(at, move_record(0, 0, 1));
+            }
+        },
+        // 7: a 65th item, good or not.
+        12..=14 => {
+            let some = items.first().map(|&at| records[at].clone());
+            let empty = Item {
+                forward: vec![0],
+                reverse: vec![],
+                phi: 0,
+                psi: 0,
+            };
+            let some = some.unwrap_or_else(|| item_record(&empty));
+            let count = items.len();
+            records.extend((count..64).map(|_| some.clone()));
+            let mut last = some;
+            match rng.below(4) {
+                0 => spoil_field(rng, device, &mut last),
+                1 => last = record(3, &vec![1; rng.below(20)]),
+                _ => {}
+            }
+            if rng.chance(90) {
+                records.push(last);
+            }
+        }
+        // Several faults in one record.
+        _ => {
+            spoil_field(rng, device, &mut records[at]);
+            if rng.chance(50) {
+                let length = records[at].len() - 3;
+                records[at].push(0);
+                set_length(&mut records[at], length);
+            }
+            if rng.chance(40) {
+                set_kind(&mut records[at], rng.pick(&[1, 2, 3, 9]).to_owned());
+            }
+        }
+    }
+}
+
+fn kind(record: &[u8]) -> u16 {
+    match record {
+        [_, _, low, high, ..] => u16::from_le_bytes([*low, *high]),
+        _ => 0,
+    }
+}
+
+fn set_kind(record: &mut [u8], kind: u16) {
+    record[2..4].copy_from_slice(&kind.to_le_bytes());
+}
+
+fn set_length(record: &mut [u8], length: usize) {
+    record[..2].copy_from_slice(&(length as u16).to_le_bytes());
+}
+
+/// A field out of its range, the length kept.
+fn spoil_field(rng: &mut Rng, device: &Device, record: &mut [u8]) {
+    let (n, m) = (device.n, device.m);
+    let length = record.len();
+    let high_bit = |rng: &mut Rng, mask: &mut [u8]| match n {
+        64 => {}
+        _ => {
+            let bit = if rng.chance(50) { n } else { rng.within(n, 63) };
+            mask[bit / 8] |= 1 << (bit % 8);
+        }
+    };
+    match (kind(record), length) {
+        (1, 6) => match rng.below(4) {
+            0 => record[4] = 0,
+            1 => record[4] = *rng.pick(&[65, 66, 128, 255]),
+            2 => record[5] = 0,
+            _ => record[5] = *rng.pick(&[33, 64, 255]),
+        },
+        (2, 14) => match rng.below(4) {
+            0 => record[4] = if rng.chance(70) { n as u8 } else { 255 },
+            1 => record[5] = if rng.chance(70) { m as u8 } else { 255 },
+            2 => record[6..].fill(0),
+            _ => high_bit(rng, &mut record[6..]),
+        },
+        (3, 23..) => match rng.below(6) {
+            0 => record[4] = *rng.pick(&[0, 9, 10, 255]),
+            1 => record[5] = *rng.pick(&[9, 10, 255]),
+            2..=3 => {
+                let at = rng.within(6, length - 17);
+                record[at] = if rng.chance(70) { m as u8 } else { 255 };
+            }
+            4 => high_bit(rng, &mut record[length - 16..length - 8]),
+            _ => high_bit(rng, &mut record[length - 8..]),
+        },
+        _ if length > 4 => record[rng.within(4, length - 1)] = rng.byte(),
+        _ => {}
+    }
+}
+
+fn damage_bytes(rng: &mut Rng, bytes: &mut Vec<u8>) {
+    let length = bytes.len();
+    match rng.below(10) {
+        0..=3 => bytes.truncate(rng.below(length)),
+        4 => bytes.truncate(length.saturating_sub(rng.within(1, 30))),
+        5 => bytes.extend((0..rng.within(1, 5)).map(|_| rng.byte() & 3)),
+        6 => bytes.clear(),
+        7 => bytes.insert(rng.below(length), rng.byte() & 7),
+        8 => {
+            bytes.remove(rng.below(length));
+        }
+        _ => {
+            let at = rng.below(length);
+            bytes[at] ^= 1 << rng.below(8);
+        }
+    }
+}
+
+fn damage_run(rng: &mut Rng, device: &Device, run: &mut Vec<u8>) {
+    let i = usize::from(run[4]);
+    match rng.below(12) {
+        0 => run.truncate(rng.below(run.len())),
+        1 => run.push(rng.byte()),
+        2 => run.clear(),
+        3 => set_kind(run, *rng.pick(&[0, 1, 3, 5, 260, 0x0400])),
+        4 => run[4] = *rng.pick(&[33, 34, 64, 255]),
+        5 => run[4] = run[4].wrapping_add(if rng.chance(50) { 1 } else { 255 }),
+        6 => {
+            let length = run.len() - 4;
+            set_length(run, *rng.pick(&[0, length - 1, length + 1, length ^ 256]));
+        }
+        7 if i > 0 => run[5 + rng.below(i)] = device.m as u8,
+        8 if device.n < 64 => {
+            let bit = rng.within(device.n, 63);
+            let at = 5 + i + 8 * rng.within(0, i);
+            run[at + bit / 8] |= 1 << (bit % 8);
+        }
+        // One of 33 commands, whole in itself.
+        9 => *run = run_bytes(&[0; 33], &[all(device.n); 34]),
+        10 => {
+            let again = run.clone();
+            run.extend(again);
+        }
+        _ => damage_bytes(rng, run),
+    }
+}
+
+// Writing
+
+struct Writing {
+    n: u64,
+    m: u64,
+    items: u64,
+    table: Vec<u64>,
+    slots: Vec<u8>,
+    out: Vec<u8>,
+}
+
+impl Writing {
+    fn new(rng: &mut Rng, device: &Device, items: &[Item]) -> Self {
+        let (n, m) = (device.n, device.m);
+        let short = if rng.chance(6) { rng.within(1, 3) } else { 0 };
+        let lengths = [
+            lent_length(rng, 2048, short == 1),
+            lent_length(rng, 2176, short == 2),
+            lent_length(rng, 31_110, short == 3),
+        ];
+        let mut filler = Rng::new(rng.word());
+
+        let used = match rng.below(4) {
+            0 => rng.within(0, items.len()),
+            _ => items.len(),
+        };
+        let mut table = device.table.clone();
+        let mut slots: Vec<u8> = items[..used].iter().flat_map(slot_bytes).collect();
+        let mut case = Writing {
+            n: n as u64,
+            m: m as u64,
+            items: used as u64,
+            table: vec![],
+            slots: vec![],
+            out: vec![],
+        };
+
+        let mut spoil = |rng: &mut Rng, case: &mut Writing| match rng.below(20) {
+            0 => case.n = *rng.pick(&[0, 65, 66, 256, 256 + n as u64, 1 << 32, u64::MAX]),
+            1 => case.m = *rng.pick(&[0, 33, 64, 256 + m as u64, 1 << 63, u64::MAX]),
+            2..=3 => case.items = *rng.pick(&[65, 66, 128, 256, (1 << 32) + 1, u64::MAX]),
+            4..=8 if n < 64 => {
+                let at = rng.below(n * m);
+                table[at] |= 1 << rng.within(n, 63);
+            }
+            _ if used > 0 => {
+                let at = rng.below(used);
+                spoil_slot(rng, n, m, &mut slots[34 * at..34 * at + 34]);
+            }
+            _ => {}
+        };
+        if rng.chance(45) {
+            for _ in 0..1 + rng.below(5) / 3 {
+                spoil(rng, &mut case);
+            }
+        }
+
+        // What lies past entries and slots is ignored, so anything may be there.
+        let plain = rng.chance(20);
+        let noise = |filler: &mut Rng| if plain { 0 } else { filler.word() };
+        table.resize_with(lengths[0].max(table.len()), || noise(&mut filler));
+        table.truncate(lengths[0]);
+        slots.resize_with(lengths[1].max(slots.len()), || noise(&mut filler) as u8);
+        slots.truncate(lengths[1]);
+        case.table = table;
+        case.slots = slots;
+        case.out = (0..lengths[2].div_ceil(8))
+            .flat_map(|_| filler.word().to_le_bytes())
+            .collect();
+        case.out.truncate(lengths[2]);
+        case
+    }
+}
+
+fn spoil_slot(rng: &mut Rng, n: usize, m: usize, slot: &mut [u8]) {
+    let (k, r) = (usize::from(slot[0]).min(8), usize::from(slot[1]).min(8));
+    let high = |rng: &mut Rng, mask: &mut [u8]| {
+        if n < 64 {
+            let bit = rng.within(n, 63);
+            mask[bit / 8] |= 1 << (bit % 8);
+        }
+    };
+    match rng.below(10) {
+        0 => slot[0] = *rng.pick(&[0, 9, 255]),
+        1 => slot[1] = *rng.pick(&[9, 10, 255]),
+        // One fewer: the last command is now an unused byte.
+        2 => slot[0] = slot[0].wrapping_sub(1),
+        3 => slot[1] = slot[1].saturating_sub(1),
+        4 if k > 0 => slot[2 + rng.below(k)] = m as u8,
+        5 if r > 0 => slot[10 + rng.below(r)] = *rng.pick(&[m as u8, 255]),
+        6 if k < 8 => slot[2 + rng.within(k, 7)] = rng.byte() & 1,
+        7 if r < 8 => slot[10 + rng.within(r, 7)] = 1,
+        8 => high(rng, &mut slot[18..26]),
+        9 => high(rng, &mut slot[26..34]),
+        _ => slot[rng.below(34)] = rng.byte(),
+    }
+}

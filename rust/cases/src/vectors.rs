@@ -1,0 +1,188 @@
+//! The cases answered by a second program; `vectors/README.md` tells their
+//! form.
+
+macro_rules! vectors {
+    ($name:literal) => {
+        include_bytes!(concat!(env!("CARGO_MANIFEST_DIR"), "/../vectors/", $name))
+    };
+}
+
+macro_rules! answers {
+    ($name:literal) => {
+        include_str!(concat!(env!("CARGO_MANIFEST_DIR"), "/../vectors/", $name))
+    };
+}
+
+/// A book and run with what assembling must answer.
+#[derive(Clone, Debug)]
+pub struct AssembleCase {
+    pub book: Vec<u8>,
+    pub run: Vec<u8>,
+    pub code: u64,
+    pub place: u64,
+    pub commands: u64,
+    pub legs: u64,
+    /// The plan's bytes up to its count.
+    pub plan: Vec<u8>,
+    /// Item, upper and lower of each leg.
+    pub leg_list: Vec<[u8; 3]>,
+    pub fewest: [u16; 33],
+}
+
+/// A book with what reading and checking must answer.
+#[derive(Clone, Debug)]
+pub struct BookCase {
+    pub book: Vec<u8>,
+    /// What the lent buffers hold before each call.
+    pub table: Vec<u64>,
+    pub slots: Vec<u8>,
+    /// Code, place, n, m, count.
+    pub reading: [u64; 5],
+    pub checking: [u64; 5],
+    /// After checking: entries 0 to 39 and slot bytes 0 to 101.
+    pub table_after: Vec<u64>,
+    pub slots_after: Vec<u8>,
+}
+
+/// What is given to writing and what it must answer.
+#[derive(Clone, Debug)]
+pub struct WriteCase {
+    pub n: u64,
+    pub m: u64,
+    pub items: u64,
+    pub table: Vec<u64>,
+    pub slots: Vec<u8>,
+    /// What the output holds before.
+    pub out: Vec<u8>,
+    pub code: u64,
+    pub place: u64,
+    pub length: u64,
+    /// The output's bytes 0 to length + 3 afterwards.
+    pub out_after: Vec<u8>,
+}
+
+/// The ridge repeater's 1,024 masks by entry.
+pub fn ridge_masks() -> Vec<u64> {
+    answers!("ridge.txt")
+        .lines()
+        .map(|line| line.parse().unwrap())
+        .collect()
+}
+
+pub fn assemble_cases() -> Vec<AssembleCase> {
+    let mut bytes = Bytes(vectors!("cases.bin"));
+    let mut lines = answers!("expected.txt").lines();
+    let mut cases = Vec::new();
+    while !bytes.0.is_empty() {
+        let (book, run) = (bytes.number(2), bytes.number(2));
+        let (book, run) = (bytes.take(book).to_vec(), bytes.take(run).to_vec());
+        let head = numbers::<u64>(lines.next());
+        let plan = numbers(lines.next());
+        let legs = numbers::<u8>(lines.next());
+        let fewest = numbers::<u16>(lines.next());
+        cases.push(AssembleCase {
+            book,
+            run,
+            code: head[0],
+            place: head[1],
+            commands: head[2],
+            legs: head[3],
+            plan,
+            leg_list: legs.chunks(3).map(|leg| leg.try_into().unwrap()).collect(),
+            fewest: fewest.try_into().unwrap(),
+        });
+    }
+    assert!(lines.next().is_none());
+    cases
+}
+
+pub fn book_cases() -> Vec<BookCase> {
+    let mut bytes = Bytes(vectors!("books.bin"));
+    let mut lines = answers!("books.txt").lines();
+    let mut cases = Vec::new();
+    while !bytes.0.is_empty() {
+        let (table, slots) = match bytes.number(1) {
+            0 => (2048, 2176),
+            1 => (2047, 2176),
+            2 => (2048, 2175),
+            3 => (2053, 2181),
+            lent => panic!("lent {lent}"),
+        };
+        let length = bytes.number(2);
+        cases.push(BookCase {
+            book: bytes.take(length).to_vec(),
+            table: (1..=table).collect(),
+            slots: (0..slots).map(|byte| (byte % 251) as u8).collect(),
+            reading: numbers(lines.next()).try_into().unwrap(),
+            checking: numbers(lines.next()).try_into().unwrap(),
+            table_after: numbers(lines.next()),
+            slots_after: numbers(lines.next()),
+        });
+    }
+    assert!(lines.next().is_none());
+    cases
+}
+
+pub fn write_cases() -> Vec<WriteCase> {
+    let mut bytes = Bytes(vectors!("writes.bin"));
+    let mut lines = answers!("writes.txt").lines();
+    let mut cases = Vec::new();
+    while !bytes.0.is_empty() {
+        let [n, m, items] = [0; 3].map(|_| bytes.word());
+        let (mut out, mut entries, mut slot_bytes) = (31_110, 2048, 2176);
+        match bytes.number(1) {
+            0 => {}
+            1 => out -= 1,
+            2 => entries -= 1,
+            3 => slot_bytes -= 1,
+            lent => panic!("lent {lent}"),
+        }
+        let mut table: Vec<u64> = (0..48).map(|_| bytes.word()).collect();
+        table.resize(entries, 0);
+        let mut slots = bytes.take(102).to_vec();
+        slots.resize(slot_bytes, 0);
+        let head = numbers::<u64>(lines.next());
+        cases.push(WriteCase {
+            n,
+            m,
+            items,
+            table,
+            slots,
+            out: vec![90; out],
+            code: head[0],
+            place: head[1],
+            length: head[2],
+            out_after: numbers(lines.next()),
+        });
+    }
+    assert!(lines.next().is_none());
+    cases
+}
+
+fn numbers<T: std::str::FromStr<Err = std::num::ParseIntError>>(line: Option<&str>) -> Vec<T> {
+    line.unwrap()
+        .split_whitespace()
+        .map(|number| number.parse().unwrap())
+        .collect()
+}
+
+struct Bytes<'a>(&'a [u8]);
+
+impl<'a> Bytes<'a> {
+    fn take(&mut self, count: usize) -> &'a [u8] {
+        let (taken, rest) = self.0.split_at(count);
+        self.0 = rest;
+        taken
+    }
+
+    fn number(&mut self, size: usize) -> usize {
+        self.take(size)
+            .iter()
+            .rev()
+            .fold(0, |number, &byte| number << 8 | usize::from(byte))
+    }
+
+    fn word(&mut self) -> u64 {
+        u64::from_le_bytes(self.take(8).try_into().unwrap())
+    }
+}

@@ -1,0 +1,133 @@
+//! The books for measuring are what they are said to be, and a seed gives the
+//! same input each time.
+
+use rollback_cases::device::{ridge_device, Device};
+use rollback_cases::*;
+use rollback_plain::{assemble, check, Assembly, Reading};
+
+fn checked(book: &[u8]) -> Reading {
+    check(book, &mut [0; 2048], &mut [0; 2176])
+}
+
+fn assembled(book: &[u8], run: &[u8]) -> Assembly {
+    assemble(
+        book,
+        run,
+        &mut [0; 2048],
+        &mut [0; 2176],
+        &mut [0; 256],
+        &mut [0; 96],
+    )
+}
+
+fn good(n: u64, m: u64, items: u64) -> Reading {
+    Reading {
+        code: 0,
+        place: 0,
+        n,
+        m,
+        items,
+    }
+}
+
+/// The counts of outcomes of a book's moves.
+fn outcome_counts(book: &[u8]) -> Vec<u32> {
+    let mut table = [0; 2048];
+    let read = check(book, &mut table, &mut [0; 2176]);
+    table[..(read.n * read.m) as usize]
+        .iter()
+        .map(|mask| mask.count_ones())
+        .collect()
+}
+
+#[test]
+fn largest() {
+    let book = largest_book();
+    assert_eq!(book.len(), 31_110);
+    assert_eq!(checked(&book), good(64, 32, 64));
+    assert!(outcome_counts(&book).iter().all(|&count| count == 1));
+    let found = assembled(&book, &largest_run());
+    assert_eq!((found.code, found.commands, found.legs), (0, 32, 4));
+}
+
+#[test]
+fn branching() {
+    let book = branching_book();
+    assert_eq!(book.len(), 31_110);
+    assert_eq!(checked(&book), good(64, 32, 64));
+    let counts = outcome_counts(&book);
+    assert!(counts.iter().all(|&count| count >= 1));
+    assert!(counts.iter().filter(|&&count| count >= 2).count() > 1500);
+    let found = assembled(&book, &branching_run());
+    assert_eq!((found.code, found.commands, found.legs), (0, 32, 4));
+
+    // The items are no empty promises: half the starts come back from phi,
+    // and one reverse command changed is turned down.
+    let (mut table, mut slots) = ([0; 2048], [0; 2176]);
+    check(&book, &mut table, &mut slots);
+    let device = Device {
+        n: 64,
+        m: 32,
+        table: table.to_vec(),
+        inverse: vec![],
+    };
+    for slot in slots.chunks(34) {
+        let (forward, reverse) = (&slot[2..10], &slot[10..18]);
+        let phi = u64::from_le_bytes(slot[18..26].try_into().unwrap());
+        let asked = (0..64)
+            .filter(|s| forward.iter().fold(1 << s, |set, &c| device.after(set, c)) & phi != 0);
+        assert_eq!(asked.count(), 30);
+        let wrong = [&reverse[..7], &[reverse[7] ^ 1]].concat();
+        assert_ne!(device.undone_starts(forward, &wrong, phi), u64::MAX);
+    }
+}
+
+#[test]
+fn ridge() {
+    assert_eq!(ridge_device().table, ridge_masks());
+    let book = ridge_book();
+    assert_eq!(checked(&book), good(64, 16, 45));
+    assert_eq!(
+        outcome_counts(&book)
+            .iter()
+            .filter(|&&count| count > 0)
+            .count(),
+        616
+    );
+    let run = ridge_run();
+    assert_eq!(run[4], 20);
+    let found = assembled(&book, &run);
+    assert_eq!(found.code, 0);
+    assert!(found.legs >= 10, "{found:?}");
+    println!("ridge: {} commands, {} legs", found.commands, found.legs);
+}
+
+#[test]
+fn q() {
+    let book = q_book();
+    assert_eq!(book.len(), 225);
+    assert_eq!(checked(&book), good(3, 3, 5));
+    let found = assembled(&book, &q5_run());
+    assert_eq!((found.code, found.commands, found.legs), (0, 1, 1));
+}
+
+#[test]
+fn grown() {
+    for n in [1, 2, 3, 17, 63, 64] {
+        for items in [0, 1, 40, 64] {
+            for (k, r) in [(1, 0), (1, 1), (2, 5), (8, 3), (8, 8), (1, 8)] {
+                let book = grown_book(n, items, k, r);
+                assert_eq!(checked(&book), good(n as u64, 32, items as u64));
+            }
+        }
+    }
+    assert_eq!(grown_book(64, 64, 8, 8).len(), 31_110);
+}
+
+#[test]
+fn a_seed_gives_the_same_input() {
+    for seed in (0..300).chain([u64::MAX, 1 << 40]) {
+        assert!(input(seed) == input(seed), "seed {seed}");
+    }
+    assert!(input(1) != input(2));
+}

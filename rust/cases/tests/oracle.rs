@@ -1,0 +1,596 @@
+//! rollback-plain against a slow program that goes by the words of 01:
+//! trajectories, histories and chains are listed one by one. A seed whose
+//! lists would be too long is skipped.
+
+use rollback_cases::{input, Input};
+use rollback_plain::{assemble, assemble_legs, check, read, ridge, write, Leg};
+use std::collections::BTreeSet;
+
+const SEEDS: u64 = 12_000;
+
+type Set = BTreeSet<usize>;
+
+struct Item {
+    place: usize,
+    forward: Vec<usize>,
+    reverse: Vec<usize>,
+    phi: Set,
+    psi: Set,
+    slot: Vec<u8>,
+}
+
+struct Book {
+    n: usize,
+    m: usize,
+    /// By state, then command.
+    outcomes: Vec<Vec<Set>>,
+    items: Vec<Item>,
+}
+
+/// Steps left before a seed is given up.
+struct Fuel(u64);
+
+impl Fuel {
+    fn step(&mut self) -> Option<()> {
+        self.0 = self.0.checked_sub(1)?;
+        Some(())
+    }
+}
+
+fn number(bytes: &[u8]) -> u64 {
+    bytes
+        .iter()
+        .rev()
+        .fold(0, |value, &byte| value * 256 + u64::from(byte))
+}
+
+/// None when the mask has a bit at n or above.
+fn set(bytes: &[u8], n: usize) -> Option<Set> {
+    let mask = number(bytes);
+    let set: Set = (0..64).filter(|s| mask & (1 << s) > 0).collect();
+    set.iter().all(|&s| s < n).then_some(set)
+}
+
+fn parse(bytes: &[u8]) -> Result<Book, (u64, usize)> {
+    let mut book = Book {
+        n: 0,
+        m: 0,
+        outcomes: vec![],
+        items: vec![],
+    };
+    let mut last: Option<usize> = None;
+    let mut at = 0;
+    loop {
+        if at > 0 && at == bytes.len() {
+            return Ok(book);
+        }
+        if bytes.len() - at < 4 {
+            return Err((2, at));
+        }
+        let length = number(&bytes[at..at + 2]) as usize;
+        let kind = number(&bytes[at + 2..at + 4]);
+        if bytes.len() - at - 4 < length {
+            return Err((2, at));
+        }
+        let body = &bytes[at + 4..at + 4 + length];
+        let in_order = match kind {
+            1 => at == 0,
+            2 => at > 0 && book.items.is_empty(),
+            3 => at > 0,
+            _ => false,
+        };
+        if !in_order {
+            return Err((3, at));
+        }
+        if kind == 3 && book.items.len() == 64 {
+            return Err((7, at));
+        }
+        if kind == 1 {
+            if length != 2 {
+                return Err((4, at));
+            }
+            (book.n, book.m) = (body[0] as usize, body[1] as usize);
+            if book.n == 0 || book.n > 64 || book.m == 0 || book.m > 32 {
+                return Err((5, at));
+            }
+            book.outcomes = vec![vec![Set::new(); book.m]; book.n];
+        } else if kind == 2 {
+            if length != 10 {
+                return Err((4, at));
+            }
+            let (state, command) = (body[0] as usize, body[1] as usize);
+            let outcomes = set(&body[2..], book.n).unwrap_or_default();
+            if state >= book.n || command >= book.m || outcomes.is_empty() {
+                return Err((5, at));
+            }
+            let entry = state * book.m + command;
+            if last.is_some_and(|last| entry <= last) {
+                return Err((6, at));
+            }
+            last = Some(entry);
+            book.outcomes[state][command] = outcomes;
+        } else {
+            if length < 2 {
+                return Err((4, at));
+            }
+            let (k, r) = (body[0] as usize, body[1] as usize);
+            if k == 0 || k > 8 || r > 8 {
+                return Err((5, at));
+            }
+            if length != 18 + k + r {
+                return Err((4, at));
+            }
+            let commands: Vec<usize> = body[2..2 + k + r].iter().map(|&c| c as usize).collect();
+            let phi = set(&body[2 + k + r..10 + k + r], book.n);
+            let psi = set(&body[10 + k + r..], book.n);
+            let (Some(phi), Some(psi)) = (phi, psi) else {
+                return Err((5, at));
+            };
+            if commands.iter().any(|&c| c >= book.m) {
+                return Err((5, at));
+            }
+            let mut slot = body[..2 + k].to_vec();
+            slot.resize(10, 0);
+            slot.extend(&body[2 + k..2 + k + r]);
+            slot.resize(18, 0);
+            slot.extend(&body[2 + k + r..]);
+            let (forward, reverse) = (commands[..k].to_vec(), commands[k..].to_vec());
+            book.items.push(Item {
+                place: at,
+                forward,
+                reverse,
+                phi,
+                psi,
+                slot,
+            });
+        }
+        at += 4 + length;
+    }
+}
+
+impl Book {
+    /// The last state of every trajectory, one for each trajectory.
+    fn ends(&self, from: usize, commands: &[usize], fuel: &mut Fuel) -> Option<Vec<usize>> {
+        fuel.step()?;
+        let Some((&command, rest)) = commands.split_first() else {
+            return Some(vec![from]);
+        };
+        let mut ends = Vec::new();
+        for &next in &self.outcomes[from][command] {
+            ends.extend(self.ends(next, rest, fuel)?);
+        }
+        Some(ends)
+    }
+
+    /// Whether every partial execution goes on and every complete one ends in
+    /// the start.
+    fn returns(
+        &self,
+        at: usize,
+        commands: &[usize],
+        start: usize,
+        fuel: &mut Fuel,
+    ) -> Option<bool> {
+        fuel.step()?;
+        let Some((&command, rest)) = commands.split_first() else {
+            return Some(at == start);
+        };
+        let outcomes = &self.outcomes[at][command];
+        if outcomes.is_empty() {
+            return Some(false);
+        }
+        for &next in outcomes {
+            if !self.returns(next, rest, start, fuel)? {
+                return Some(false);
+            }
+        }
+        Some(true)
+    }
+
+    fn accepts(&self, item: &Item, fuel: &mut Fuel) -> Option<bool> {
+        for &start in &item.psi {
+            for end in self.ends(start, &item.forward, fuel)? {
+                if item.phi.contains(&end) && !self.returns(end, &item.reverse, start, fuel)? {
+                    return Some(false);
+                }
+            }
+        }
+        Some(true)
+    }
+
+    /// Lists the histories that go on from a path and notes what they have.
+    fn histories(
+        &self,
+        run: &Run,
+        path: &mut Vec<usize>,
+        seen: &mut [Set],
+        fuel: &mut Fuel,
+    ) -> Option<()> {
+        fuel.step()?;
+        let point = path.len();
+        if point == run.sightings.len() {
+            path.iter()
+                .zip(seen)
+                .for_each(|(&state, seen)| seen.extend([state]));
+            return Some(());
+        }
+        for &state in &run.sightings[point] {
+            if point == 0
+                || self.outcomes[path[point - 1]][run.commands[point - 1]].contains(&state)
+            {
+                path.push(state);
+                self.histories(run, path, seen, fuel)?;
+                path.pop();
+            }
+        }
+        Some(())
+    }
+}
+
+struct Run {
+    commands: Vec<usize>,
+    sightings: Vec<Set>,
+}
+
+fn parse_run(bytes: &[u8], book: &Book) -> Option<Run> {
+    if bytes.len() < 5
+        || number(&bytes[2..4]) != 4
+        || number(&bytes[..2]) as usize != bytes.len() - 4
+    {
+        return None;
+    }
+    let i = bytes[4] as usize;
+    if i > 32 || bytes.len() != 4 + 9 + 9 * i {
+        return None;
+    }
+    let commands: Vec<usize> = bytes[5..5 + i].iter().map(|&c| c as usize).collect();
+    let sightings: Option<Vec<Set>> = bytes[5 + i..]
+        .chunks(8)
+        .map(|mask| set(mask, book.n))
+        .collect();
+    let sightings = sightings?;
+    commands.iter().all(|&c| c < book.m).then_some(Run {
+        commands,
+        sightings,
+    })
+}
+
+/// Lists every chain from a point and keeps the best: fewest commands, then
+/// the lower list.
+fn chains(
+    book: &Book,
+    run: &Run,
+    possible: &[Set],
+    point: usize,
+    list: &mut Vec<usize>,
+    best: &mut Option<(usize, Vec<usize>)>,
+    fuel: &mut Fuel,
+) -> Option<()> {
+    fuel.step()?;
+    if point == 0 {
+        let commands = list
+            .iter()
+            .map(|&item| book.items[item].reverse.len())
+            .sum();
+        let found = (commands, list.clone());
+        if best.as_ref().is_none_or(|best| found < *best) {
+            *best = Some(found);
+        }
+        return Some(());
+    }
+    for (number, item) in book.items.iter().enumerate() {
+        let k = item.forward.len();
+        if k <= point
+            && run.commands[point - k..point] == item.forward
+            && possible[point].is_subset(&item.phi)
+            && possible[point - k].is_subset(&item.psi)
+        {
+            list.push(number);
+            chains(book, run, possible, point - k, list, best, fuel)?;
+            list.pop();
+        }
+    }
+    Some(())
+}
+
+/// What every call on a book must answer, and what it must leave behind.
+struct Expected {
+    read: [u64; 5],
+    check: [u64; 5],
+    assemble: [u64; 4],
+    fewest: [u16; 33],
+    plan: Vec<u8>,
+    legs: Vec<[u8; 3]>,
+    /// Where table and slots are read.
+    filled: Option<(Vec<u64>, Vec<u8>)>,
+}
+
+fn expected(input: &Input) -> Option<Expected> {
+    let mut fuel = Fuel(60_000);
+    let mut answer = Expected {
+        read: [0; 5],
+        check: [0; 5],
+        assemble: [0; 4],
+        fewest: [65_535; 33],
+        plan: vec![],
+        legs: vec![],
+        filled: None,
+    };
+    if input.table.len() < 2048 || input.slots.len() < 2176 {
+        answer.read[0] = 1;
+        answer.check[0] = 1;
+        answer.assemble[0] = 1;
+        return Some(answer);
+    }
+    let lent = input.plan.len() >= 256 && input.legs.len() >= 96;
+    let book = match parse(&input.book) {
+        Ok(book) => book,
+        Err((code, place)) => {
+            answer.read[..2].copy_from_slice(&[code, place as u64]);
+            answer.check = answer.read;
+            answer.assemble[..2].copy_from_slice(if lent { &answer.read[..2] } else { &[1, 0] });
+            return Some(answer);
+        }
+    };
+    let (mut table, mut slots) = (input.table.clone(), input.slots.clone());
+    for (state, row) in book.outcomes.iter().enumerate() {
+        for (command, outcomes) in row.iter().enumerate() {
+            table[state * book.m + command] = outcomes.iter().map(|s| 1 << s).sum();
+        }
+    }
+    for (number, item) in book.items.iter().enumerate() {
+        slots[34 * number..34 * number + 34].copy_from_slice(&item.slot);
+    }
+    answer.filled = Some((table, slots));
+    answer.read = [0, 0, book.n as u64, book.m as u64, book.items.len() as u64];
+    answer.check = answer.read;
+    for item in &book.items {
+        if !book.accepts(item, &mut fuel)? {
+            answer.check = [8, item.place as u64, 0, 0, 0];
+            break;
+        }
+    }
+    if !lent {
+        answer.assemble[0] = 1;
+        return Some(answer);
+    }
+    answer.assemble[..2].copy_from_slice(&answer.check[..2]);
+    if answer.check[0] == 8 {
+        return Some(answer);
+    }
+    let Some(run) = parse_run(&input.run, &book) else {
+        answer.assemble[0] = 9;
+        return Some(answer);
+    };
+    let i = run.commands.len();
+    let mut possible = vec![Set::new(); i + 1];
+    book.histories(&run, &mut vec![], &mut possible, &mut fuel)?;
+    if possible[i].is_empty() {
+        answer.assemble[0] = 10;
+        return Some(answer);
+    }
+    let mut top = None;
+    for point in 0..=i {
+        let mut best = None;
+        chains(
+            &book,
+            &run,
+            &possible,
+            point,
+            &mut vec![],
+            &mut best,
+            &mut fuel,
+        )?;
+        if let Some((commands, _)) = best {
+            answer.fewest[point] = commands as u16;
+        }
+        top = best;
+    }
+    let Some((commands, list)) = top else {
+        answer.assemble[0] = 11;
+        return Some(answer);
+    };
+    answer.assemble = [0, 0, commands as u64, list.len() as u64];
+    let mut upper = i;
+    for number in list {
+        let item = &book.items[number];
+        let lower = upper - item.forward.len();
+        answer.plan.extend(item.reverse.iter().map(|&c| c as u8));
+        answer.legs.push([number as u8, upper as u8, lower as u8]);
+        upper = lower;
+    }
+    Some(answer)
+}
+
+/// A buffer with its start replaced.
+fn over<T: Clone>(before: &[T], start: &[T]) -> Vec<T> {
+    let mut after = before.to_vec();
+    after[..start.len()].clone_from_slice(start);
+    after
+}
+
+#[test]
+fn books_and_runs() {
+    let mut codes = [0; 12];
+    let (mut skipped, mut two_legs) = (0, 0);
+    for seed in 0..SEEDS {
+        let input = input(seed);
+        let Some(expected) = expected(&input) else {
+            skipped += 1;
+            continue;
+        };
+        let untouched = (input.table.clone(), input.slots.clone());
+        let filled = expected.filled.as_ref().unwrap_or(&untouched);
+
+        let (mut table, mut slots) = untouched.clone();
+        let found = read(&input.book, &mut table, &mut slots);
+        let found = [found.code, found.place, found.n, found.m, found.items];
+        assert_eq!(found, expected.read, "reading, seed {seed}");
+        assert!(
+            (&table, &slots) == (&filled.0, &filled.1),
+            "after reading, seed {seed}"
+        );
+
+        let (mut table, mut slots) = untouched.clone();
+        let found = check(&input.book, &mut table, &mut slots);
+        let found = [found.code, found.place, found.n, found.m, found.items];
+        assert_eq!(found, expected.check, "checking, seed {seed}");
+        assert!(
+            (&table, &slots) == (&filled.0, &filled.1),
+            "after checking, seed {seed}"
+        );
+
+        // Assembling with 1 touches nothing.
+        let left = if expected.assemble[0] == 1 {
+            &untouched
+        } else {
+            filled
+        };
+        let (mut table, mut slots) = untouched.clone();
+        let (mut plan, mut legs) = (input.plan.clone(), input.legs.clone());
+        let found = assemble(
+            &input.book,
+            &input.run,
+            &mut table,
+            &mut slots,
+            &mut plan,
+            &mut legs,
+        );
+        let head = [found.code, found.place, found.commands, found.legs];
+        assert_eq!(head, expected.assemble, "assembling, seed {seed}");
+        assert_eq!(found.fewest, expected.fewest, "assembling, seed {seed}");
+        assert!(
+            (&table, &slots) == (&left.0, &left.1),
+            "after assembling, seed {seed}"
+        );
+        let expected_plan = over(&input.plan, &expected.plan);
+        assert_eq!(plan, expected_plan, "plan, seed {seed}");
+        assert_eq!(
+            legs,
+            over(&input.legs, &expected.legs.concat()),
+            "legs, seed {seed}"
+        );
+
+        let (mut table, mut slots) = untouched.clone();
+        let mut plan = input.plan.clone();
+        let leg = |&[item, upper, lower]: &[u8; 3]| Leg { item, upper, lower };
+        let mut legs: Vec<Leg> = input.leg_structs.iter().map(leg).collect();
+        let again = assemble_legs(
+            &input.book,
+            &input.run,
+            &mut table,
+            &mut slots,
+            &mut plan,
+            &mut legs,
+        );
+        assert_eq!(again, found, "leg structs, seed {seed}");
+        assert!(
+            (&table, &slots) == (&left.0, &left.1),
+            "leg structs, seed {seed}"
+        );
+        assert_eq!(plan, expected_plan, "leg structs, seed {seed}");
+        let bytes: Vec<[u8; 3]> = legs.iter().map(|l| [l.item, l.upper, l.lower]).collect();
+        assert_eq!(
+            bytes,
+            over(&input.leg_structs, &expected.legs),
+            "leg structs, seed {seed}"
+        );
+
+        codes[found.code as usize] += 1;
+        two_legs += usize::from(found.legs >= 2);
+    }
+    println!("{SEEDS} seeds, {skipped} skipped, codes {codes:?}, {two_legs} with two legs or more");
+    assert!(skipped < SEEDS / 3, "{skipped} skipped");
+    assert!(codes.iter().all(|&count| count >= 100), "{codes:?}");
+    assert!(two_legs >= 800, "{two_legs}");
+}
+
+fn expected_writing(input: &Input) -> (u64, u64, Vec<u8>) {
+    let refused = |code, place| (code, place as u64, vec![]);
+    if input.write_table.len() < 2048 || input.write_slots.len() < 2176 || input.out.len() < 31_110
+    {
+        return refused(1, 0);
+    }
+    if input.n < 1 || input.n > 64 || input.m < 1 || input.m > 32 {
+        return refused(5, 0);
+    }
+    if input.items > 64 {
+        return refused(7, 0);
+    }
+    let (n, m) = (input.n as usize, input.m as usize);
+    let mut book = vec![2, 0, 1, 0, n as u8, m as u8];
+    for state in 0..n {
+        for command in 0..m {
+            let entry = state * m + command;
+            let mask = input.write_table[entry];
+            if (n..64).any(|bit| mask >> bit & 1 == 1) {
+                return refused(5, entry);
+            }
+            if mask != 0 {
+                book.extend([10, 0, 2, 0, state as u8, command as u8]);
+                book.extend(mask.to_le_bytes());
+            }
+        }
+    }
+    for number in 0..input.items as usize {
+        let slot = &input.write_slots[34 * number..][..34];
+        let (k, r) = (slot[0] as usize, slot[1] as usize);
+        if !(1..=8).contains(&k) || r > 8 {
+            return refused(5, number);
+        }
+        for at in 0..8 {
+            let fine = |byte: u8, used| if used { (byte as usize) < m } else { byte == 0 };
+            if !fine(slot[2 + at], at < k) || !fine(slot[10 + at], at < r) {
+                return refused(5, number);
+            }
+        }
+        if set(&slot[18..26], n).is_none() || set(&slot[26..], n).is_none() {
+            return refused(5, number);
+        }
+        book.extend([(18 + k + r) as u8, 0, 3, 0]);
+        book.extend([&slot[..2], &slot[2..2 + k], &slot[10..10 + r], &slot[18..]].concat());
+    }
+    (0, 0, book)
+}
+
+#[test]
+fn writing_and_ridge() {
+    let masks = rollback_cases::ridge_masks();
+    let mut codes = [0; 12];
+    for seed in 0..SEEDS {
+        let input = input(seed);
+        let (code, place, book) = expected_writing(&input);
+        let mut out = input.out.clone();
+        let found = write(
+            input.n,
+            input.m,
+            input.items,
+            &input.write_table,
+            &input.write_slots,
+            &mut out,
+        );
+        let head = (found.code, found.place, found.length);
+        assert_eq!(head, (code, place, book.len() as u64), "seed {seed}");
+        assert!(out == over(&input.out, &book), "output, seed {seed}");
+        codes[code as usize] += 1;
+
+        let inside = input.state < 64 && input.command < 16;
+        let mask = if inside {
+            masks[(input.state * 16 + input.command) as usize]
+        } else {
+            0
+        };
+        let found = ridge(input.state, input.command);
+        let code = if inside { 0 } else { 5 };
+        assert_eq!(
+            (found.code, found.place, found.mask),
+            (code, 0, mask),
+            "seed {seed}"
+        );
+    }
+    println!("writing: codes {codes:?}");
+    assert!(
+        [0, 1, 5, 7].iter().all(|&code: &usize| codes[code] >= 100),
+        "{codes:?}"
+    );
+}

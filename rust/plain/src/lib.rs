@@ -1,0 +1,98 @@
+//! Books, runs and roll-back plans, written from document 01.
+//!
+//! Nothing is allocated: the caller lends every buffer. A refusal is a code
+//! and a place; code 0 is done.
+
+#![forbid(unsafe_code)]
+
+mod accept;
+mod assemble;
+mod read;
+mod ridge;
+mod run;
+mod sets;
+mod slot;
+mod write;
+
+pub use assemble::{assemble, assemble_legs};
+pub use read::{check, read};
+pub use ridge::ridge;
+pub use write::write;
+
+/// Entries of a lent table.
+pub(crate) const TABLE: usize = 2048;
+/// Most items in a book.
+pub(crate) const ITEMS: usize = 64;
+/// Bytes of lent slots.
+pub(crate) const SLOTS: usize = ITEMS * slot::SIZE;
+/// Bytes of a lent plan.
+pub(crate) const PLAN: usize = 256;
+/// Most commands in a run, and legs in a chain.
+pub(crate) const RUN: usize = 32;
+/// Points of a run: one before each command and one after the last.
+pub(crate) const POINTS: usize = RUN + 1;
+/// Bytes of the largest book.
+pub(crate) const BOOK: usize = 31_110;
+
+/// What reading and checking answer.
+#[derive(Clone, Copy, Debug, PartialEq, Eq)]
+pub struct Reading {
+    pub code: u64,
+    pub place: u64,
+    pub n: u64,
+    pub m: u64,
+    pub items: u64,
+}
+
+/// What assembling answers.
+#[derive(Clone, Copy, Debug, PartialEq, Eq)]
+pub struct Assembly {
+    pub code: u64,
+    pub place: u64,
+    pub commands: u64,
+    pub legs: u64,
+    pub fewest: [u16; 33],
+}
+
+/// What writing answers.
+#[derive(Clone, Copy, Debug, PartialEq, Eq)]
+pub struct Writing {
+    pub code: u64,
+    pub place: u64,
+    pub length: u64,
+}
+
+/// What a ridge lookup answers.
+#[derive(Clone, Copy, Debug, PartialEq, Eq)]
+pub struct Lookup {
+    pub code: u64,
+    pub place: u64,
+    pub mask: u64,
+}
+
+/// One item of a chain, from its upper point down to its lower one.
+#[derive(Clone, Copy, Debug, PartialEq, Eq, Default)]
+pub struct Leg {
+    pub item: u8,
+    pub upper: u8,
+    pub lower: u8,
+}
+
+/// A refusal.
+#[derive(Clone, Copy)]
+pub(crate) struct Fault {
+    pub code: u64,
+    pub place: u64,
+}
+
+impl Fault {
+    pub fn new(code: u64, place: usize) -> Self {
+        Fault {
+            code,
+            place: place as u64,
+        }
+    }
+}
+
+#[cfg(test)]
+mod tests;

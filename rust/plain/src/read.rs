@@ -1,0 +1,192 @@
+//! Reading a book into table and slots, and checking its items.
+
+use crate::accept::accepted;
+use crate::sets::all;
+use crate::slot::{self, Slot};
+use crate::{Fault, Reading, ITEMS, SLOTS, TABLE};
+
+const DEVICE: u16 = 1;
+const MOVE: u16 = 2;
+const ITEM: u16 = 3;
+
+/// Bytes of a device record and of a move record, headers included.
+const DEVICE_SIZE: usize = 6;
+const MOVE_SIZE: usize = 14;
+
+/// A book that keeps the rules for its bytes: the device record, then
+/// `moves` move records, then `items` item records, and nothing else.
+pub(crate) struct Book {
+    pub n: usize,
+    pub m: usize,
+    pub items: usize,
+    moves: usize,
+}
+
+pub fn read(book: &[u8], table: &mut [u64], slots: &mut [u8]) -> Reading {
+    answer(read_book(book, table, slots))
+}
+
+/// "checking a book is reading and 8"
+pub fn check(book: &[u8], table: &mut [u64], slots: &mut [u8]) -> Reading {
+    answer(check_book(book, table, slots))
+}
+
+fn answer(result: Result<Book, Fault>) -> Reading {
+    match result {
+        Ok(book) => Reading {
+            code: 0,
+            place: 0,
+            n: book.n as u64,
+            m: book.m as u64,
+            items: book.items as u64,
+        },
+        Err(Fault { code, place }) => Reading {
+            code,
+            place,
+            n: 0,
+            m: 0,
+            items: 0,
+        },
+    }
+}
+
+fn read_book(book: &[u8], table: &mut [u64], slots: &mut [u8]) -> Result<Book, Fault> {
+    if table.len() < TABLE || slots.len() < SLOTS {
+        return Err(Fault::new(1, 0));
+    }
+    // Nothing is written before the whole book is known to be good.
+    let found = survey(book)?;
+    fill(book, &found, table, slots);
+    Ok(found)
+}
+
+pub(crate) fn check_book(book: &[u8], table: &mut [u64], slots: &mut [u8]) -> Result<Book, Fault> {
+    let found = read_book(book, table, slots)?;
+    let mut place = DEVICE_SIZE + MOVE_SIZE * found.moves;
+    for slot in used(slots, found.items) {
+        if !accepted(table, found.m, slot) {
+            return Err(Fault::new(8, place));
+        }
+        place += slot::record_size(slot);
+    }
+    Ok(found)
+}
+
+/// The first `items` slots.
+pub(crate) fn used(slots: &[u8], items: usize) -> &[Slot] {
+    &slots.as_chunks().0[..items]
+}
+
+/// Judges every record: "2, 3, 7, 4, 5, 6, the first faulty record deciding".
+fn survey(book: &[u8]) -> Result<Book, Fault> {
+    let (kind, body) = record(book, 0)?;
+    if kind != DEVICE {
+        return Err(Fault::new(3, 0));
+    }
+    let &[n, m] = body else {
+        return Err(Fault::new(4, 0));
+    };
+    if !(1..=64).contains(&n) || !(1..=32).contains(&m) {
+        return Err(Fault::new(5, 0));
+    }
+
+    let mut found = Book {
+        n: n.into(),
+        m: m.into(),
+        moves: 0,
+        items: 0,
+    };
+    let outside = !all(found.n);
+    let mut next_entry = 0; // the lowest entry that the next move may have
+    let mut at = DEVICE_SIZE;
+    while at < book.len() {
+        let (kind, body) = record(book, at)?;
+        let fault = |code| Fault::new(code, at);
+        match kind {
+            // "No move follows an item."
+            MOVE if found.items == 0 => {
+                let &[state, command, a, b, c, d, e, f, g, h] = body else {
+                    return Err(fault(4));
+                };
+                let mask = u64::from_le_bytes([a, b, c, d, e, f, g, h]);
+                if state >= n || command >= m || mask == 0 || mask & outside != 0 {
+                    return Err(fault(5));
+                }
+                let entry = usize::from(state) * found.m + usize::from(command);
+                if entry < next_entry {
+                    return Err(fault(6));
+                }
+                next_entry = entry + 1;
+                found.moves += 1;
+            }
+            ITEM => {
+                if found.items == ITEMS {
+                    return Err(fault(7));
+                }
+                item_body(body, m, outside).map_err(fault)?;
+                found.items += 1;
+            }
+            _ => return Err(fault(3)),
+        }
+        at += 4 + body.len();
+    }
+    Ok(found)
+}
+
+/// "In an item a body under 2 bytes is 4, then k or r out of range is 5, then
+/// length other than 18 + k + r is 4, then the rest."
+fn item_body(body: &[u8], m: u8, outside: u64) -> Result<(), u64> {
+    let &[k, r, ref rest @ ..] = body else {
+        return Err(4);
+    };
+    if !(1..=8).contains(&k) || r > 8 {
+        return Err(5);
+    }
+    let count = usize::from(k + r);
+    if rest.len() != 16 + count {
+        return Err(4);
+    }
+    let (commands, masks) = rest.split_at(count);
+    let wild = masks
+        .as_chunks()
+        .0
+        .iter()
+        .any(|&mask| u64::from_le_bytes(mask) & outside != 0);
+    if wild || commands.iter().any(|&command| command >= m) {
+        return Err(5);
+    }
+    Ok(())
+}
+
+/// The kind and body of the record at an offset, or 2 where it is cut off.
+fn record(book: &[u8], at: usize) -> Result<(u16, &[u8]), Fault> {
+    if let Some((&[l, ll, k, kk], rest)) = book[at..].split_first_chunk() {
+        if let Some(body) = rest.get(..u16::from_le_bytes([l, ll]).into()) {
+            return Ok((u16::from_le_bytes([k, kk]), body));
+        }
+    }
+    Err(Fault::new(2, at))
+}
+
+/// Fills table and slots from a book that `survey` has passed.
+fn fill(book: &[u8], found: &Book, table: &mut [u64], slots: &mut [u8]) {
+    let (moves, mut items) = book[DEVICE_SIZE..].split_at(MOVE_SIZE * found.moves);
+
+    // "Pairs not written have no outcomes (entry 0)."
+    table[..found.n * found.m].fill(0);
+    for &[_, _, _, _, state, command, ref mask @ ..] in moves.as_chunks::<MOVE_SIZE>().0 {
+        table[usize::from(state) * found.m + usize::from(command)] = u64::from_le_bytes(*mask);
+    }
+
+    for slot in &mut slots.as_chunks_mut::<{ slot::SIZE }>().0[..found.items] {
+        let (k, r) = (usize::from(items[4]), usize::from(items[5]));
+        let (body, rest) = items[6..].split_at(k + r + 16);
+        *slot = [0; slot::SIZE];
+        slot[0] = k as u8;
+        slot[1] = r as u8;
+        slot[2..2 + k].copy_from_slice(&body[..k]);
+        slot[10..10 + r].copy_from_slice(&body[k..k + r]);
+        slot[18..].copy_from_slice(&body[k + r..]);
+        items = rest;
+    }
+}

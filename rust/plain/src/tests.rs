@@ -1,0 +1,251 @@
+//! The marked twelve of 01 on the small device Q, and the ridge's facts.
+
+use super::*;
+
+type Item<'a> = (&'a [u8], &'a [u8], u64, u64);
+
+const Q: [Item; 5] = [
+    (&[2], &[1, 0], 7, 7),
+    (&[1], &[0], 7, 1),
+    (&[2, 1], &[0], 7, 7),
+    (&[1], &[], 7, 2),
+    (&[2], &[0], 7, 7),
+];
+
+fn book(items: &[Item]) -> Vec<u8> {
+    let mut bytes = vec![2, 0, 1, 0, 3, 3];
+    for (state, command, mask) in [
+        (0, 0, 1),
+        (0, 1, 2),
+        (0, 2, 6),
+        (1, 0, 1),
+        (1, 1, 2),
+        (2, 0, 1),
+        (2, 1, 2u64),
+    ] {
+        bytes.extend([10, 0, 2, 0, state, command]);
+        bytes.extend(mask.to_le_bytes());
+    }
+    for (forward, reverse, phi, psi) in items {
+        let (k, r) = (forward.len() as u8, reverse.len() as u8);
+        bytes.extend([18 + k + r, 0, 3, 0, k, r]);
+        bytes.extend(*forward);
+        bytes.extend(*reverse);
+        bytes.extend(phi.to_le_bytes());
+        bytes.extend(psi.to_le_bytes());
+    }
+    bytes
+}
+
+fn run(commands: &[u8], sightings: &[u64]) -> Vec<u8> {
+    let i = commands.len() as u8;
+    let mut bytes = (9 + 9 * u16::from(i)).to_le_bytes().to_vec();
+    bytes.extend([4, 0, i]);
+    bytes.extend(commands);
+    for sighting in sightings {
+        bytes.extend(sighting.to_le_bytes());
+    }
+    bytes
+}
+
+fn checked(items: &[Item]) -> Reading {
+    check(&book(items), &mut [0; 2048], &mut [0; 2176])
+}
+
+/// Code, plan and legs; both forms of the legs must agree, and what lies past
+/// the counts must stay.
+fn assembled(commands: &[u8], sightings: &[u64]) -> (Assembly, Vec<u8>, Vec<[u8; 3]>) {
+    let (book, run) = (book(&Q), run(commands, sightings));
+    let (mut table, mut slots) = ([0; 2048], [0; 2176]);
+    let (mut plan, mut legs) = ([77; 256], [78; 96]);
+    let result = assemble(&book, &run, &mut table, &mut slots, &mut plan, &mut legs);
+    let (commands, count) = (result.commands as usize, result.legs as usize);
+    assert!(plan[commands..].iter().all(|&b| b == 77));
+    assert!(legs[3 * count..].iter().all(|&b| b == 78));
+
+    let mut structs = [Leg {
+        item: 78,
+        upper: 78,
+        lower: 78,
+    }; 32];
+    let mut again = [77; 256];
+    let second = assemble_legs(
+        &book,
+        &run,
+        &mut table,
+        &mut slots,
+        &mut again,
+        &mut structs,
+    );
+    assert_eq!((result, plan), (second, again));
+    for (leg, bytes) in structs.iter().zip(legs.chunks(3)) {
+        assert_eq!([leg.item, leg.upper, leg.lower], bytes);
+    }
+    let legs = legs[..3 * count]
+        .chunks(3)
+        .map(|leg| leg.try_into().unwrap())
+        .collect();
+    (result, plan[..commands].to_vec(), legs)
+}
+
+fn fewest(first: &[u16]) -> [u16; 33] {
+    let mut all = [65535; 33];
+    all[..first.len()].copy_from_slice(first);
+    all
+}
+
+#[test]
+fn the_book_of_q() {
+    assert_eq!(book(&Q).len(), 225);
+}
+
+#[test]
+fn q1_all_five_are_accepted() {
+    let good = Reading {
+        code: 0,
+        place: 0,
+        n: 3,
+        m: 3,
+        items: 5,
+    };
+    assert_eq!(checked(&Q), good);
+}
+
+#[test]
+fn q2_item_1_with_psi_3_is_not() {
+    let bad = Reading {
+        code: 8,
+        place: 104,
+        n: 0,
+        m: 0,
+        items: 0,
+    };
+    assert_eq!(checked(&[(&[1], &[0], 7, 3)]), bad);
+    assert_eq!(
+        checked(&[Q[0], (&[1], &[0], 7, 3)]),
+        Reading {
+            place: 104 + 25,
+            ..bad
+        }
+    );
+}
+
+#[test]
+fn q3_stuck_is_not() {
+    assert_eq!(checked(&[(&[2], &[2], 7, 7)]).code, 8);
+}
+
+#[test]
+fn q4_no_trajectory_is() {
+    assert_eq!(checked(&[(&[2, 2], &[], 7, 7)]).code, 0);
+}
+
+#[test]
+fn q5() {
+    let (result, plan, legs) = assembled(&[2, 1], &[7, 7, 7]);
+    assert_eq!((result.code, result.place), (0, 0));
+    assert_eq!((result.commands, result.legs), (1, 1));
+    assert_eq!((plan, legs), (vec![0], vec![[2, 2, 0]]));
+    assert_eq!(result.fewest, fewest(&[0, 1, 1]));
+}
+
+#[test]
+fn q6_the_lower_list_wins() {
+    let (result, plan, legs) = assembled(&[2, 1], &[7, 2, 7]);
+    assert_eq!((result.code, plan, legs), (0, vec![0], vec![[2, 2, 0]]));
+    assert_eq!(result.fewest, fewest(&[0, 1, 1]));
+}
+
+#[test]
+fn q7() {
+    let (result, plan, legs) = assembled(&[2], &[7, 7]);
+    assert_eq!((result.code, plan, legs), (0, vec![0], vec![[4, 1, 0]]));
+}
+
+#[test]
+fn q8() {
+    let (result, plan, legs) = assembled(&[1, 1], &[1, 7, 7]);
+    assert_eq!(
+        (result.code, plan, legs),
+        (0, vec![0], vec![[3, 2, 1], [1, 1, 0]])
+    );
+}
+
+#[test]
+fn q9_no_chain() {
+    let (result, plan, legs) = assembled(&[1], &[7, 7]);
+    assert_eq!((result.code, plan, legs), (11, vec![], vec![]));
+    assert_eq!(result.fewest, fewest(&[0]));
+}
+
+#[test]
+fn q10_no_history() {
+    let (result, ..) = assembled(&[2, 2], &[7, 7, 7]);
+    assert_eq!((result.code, result.fewest), (10, [65535; 33]));
+}
+
+#[test]
+fn q11_empty_plan() {
+    let (result, plan, legs) = assembled(&[], &[7]);
+    assert_eq!((result.code, plan, legs), (0, vec![], vec![]));
+    assert_eq!(result.fewest, fewest(&[0]));
+}
+
+#[test]
+fn q12_zero_sighting() {
+    let (result, ..) = assembled(&[], &[0]);
+    assert_eq!((result.code, result.fewest), (10, [65535; 33]));
+}
+
+#[test]
+fn q_is_written_as_read() {
+    let book = book(&Q);
+    let (mut table, mut slots) = ([u64::MAX; 2048], [255; 2176]);
+    assert_eq!(read(&book, &mut table, &mut slots).code, 0);
+    assert!(table[9..].iter().all(|&entry| entry == u64::MAX));
+    assert!(slots[170..].iter().all(|&byte| byte == 255));
+    let mut out = vec![9; 31_110];
+    let written = write(3, 3, 5, &table, &slots, &mut out);
+    assert_eq!(
+        written,
+        Writing {
+            code: 0,
+            place: 0,
+            length: 225
+        }
+    );
+    assert_eq!(out[..225], book);
+    assert!(out[225..].iter().all(|&byte| byte == 9));
+}
+
+#[test]
+fn ridge_facts() {
+    let filled = (0..64)
+        .flat_map(|state| (0..16).map(move |command| ridge(state, command)))
+        .filter(|found| found.mask != 0);
+    assert_eq!(filled.count(), 616);
+    assert_eq!(
+        ridge(0, 13),
+        Lookup {
+            code: 0,
+            place: 0,
+            mask: 15
+        }
+    );
+    assert_eq!(
+        ridge(16, 2),
+        Lookup {
+            code: 0,
+            place: 0,
+            mask: 327_680
+        }
+    );
+    let outside = Lookup {
+        code: 5,
+        place: 0,
+        mask: 0,
+    };
+    for (state, command) in [(64, 0), (0, 16), (u64::MAX, 0), (0, u64::MAX), (1 << 32, 0)] {
+        assert_eq!(ridge(state, command), outside);
+    }
+}

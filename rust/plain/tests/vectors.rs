@@ -1,0 +1,142 @@
+//! Every case that a second program has answered.
+
+use rollback_cases::{assemble_cases, book_cases, ridge_masks, write_cases};
+use rollback_plain::{assemble, assemble_legs, check, read, ridge, write, Leg};
+
+#[test]
+fn ridge_masks_are_the_same() {
+    let masks = ridge_masks();
+    assert_eq!(masks.len(), 1024);
+    for (entry, &mask) in (0..).zip(&masks) {
+        let found = ridge(entry / 16, entry % 16);
+        assert_eq!(
+            (found.code, found.place, found.mask),
+            (0, 0, mask),
+            "entry {entry}"
+        );
+    }
+}
+
+#[test]
+fn books_are_read_and_checked() {
+    let cases = book_cases();
+    assert_eq!(cases.len(), 900);
+    for (number, case) in cases.iter().enumerate() {
+        let (mut table, mut slots) = (case.table.clone(), case.slots.clone());
+        let found = read(&case.book, &mut table, &mut slots);
+        let found = [found.code, found.place, found.n, found.m, found.items];
+        assert_eq!(found, case.reading, "reading, case {number}");
+        let after_reading = (table, slots);
+
+        let (mut table, mut slots) = (case.table.clone(), case.slots.clone());
+        let found = check(&case.book, &mut table, &mut slots);
+        let found = [found.code, found.place, found.n, found.m, found.items];
+        assert_eq!(found, case.checking, "checking, case {number}");
+        assert_eq!(table[..40], case.table_after, "table, case {number}");
+        assert_eq!(slots[..102], case.slots_after, "slots, case {number}");
+        // Checking leaves what reading leaves.
+        assert_eq!((table, slots), after_reading, "case {number}");
+
+        // What is past the book's own entries and slots stays.
+        let [code, _, n, m, items] = case.reading;
+        let (entries, bytes) = if code == 0 {
+            (n * m, 34 * items)
+        } else {
+            (0, 0)
+        };
+        let (entries, bytes) = (entries as usize, bytes as usize);
+        assert_eq!(
+            after_reading.0[entries..],
+            case.table[entries..],
+            "case {number}"
+        );
+        assert_eq!(
+            after_reading.1[bytes..],
+            case.slots[bytes..],
+            "case {number}"
+        );
+    }
+}
+
+#[test]
+fn books_are_written() {
+    let cases = write_cases();
+    assert_eq!(cases.len(), 500);
+    for (number, case) in cases.iter().enumerate() {
+        let mut out = case.out.clone();
+        let found = write(
+            case.n,
+            case.m,
+            case.items,
+            &case.table,
+            &case.slots,
+            &mut out,
+        );
+        let found = (found.code, found.place, found.length);
+        assert_eq!(found, (case.code, case.place, case.length), "case {number}");
+        let (start, rest) = out.split_at(case.out_after.len());
+        assert_eq!(start, case.out_after, "case {number}");
+        assert!(rest.iter().all(|&byte| byte == 90), "case {number}");
+    }
+}
+
+#[test]
+fn plans_are_assembled() {
+    let cases = assemble_cases();
+    assert_eq!(cases.len(), 1626);
+    for (number, case) in cases.iter().enumerate() {
+        let (mut table, mut slots) = (vec![7; 2048], vec![8; 2176]);
+        let (mut plan, mut legs) = (vec![201; 256], vec![202; 96]);
+        let found = assemble(
+            &case.book, &case.run, &mut table, &mut slots, &mut plan, &mut legs,
+        );
+        let head = (found.code, found.place, found.commands, found.legs);
+        assert_eq!(
+            head,
+            (case.code, case.place, case.commands, case.legs),
+            "case {number}"
+        );
+        assert_eq!(found.fewest, case.fewest, "case {number}");
+        assert_eq!(case.plan.len() as u64, case.commands);
+        assert_eq!(case.leg_list.len() as u64, case.legs);
+
+        let mut expected_plan = case.plan.clone();
+        expected_plan.resize(256, 201);
+        assert_eq!(plan, expected_plan, "case {number}");
+        let mut expected_legs = case.leg_list.concat();
+        expected_legs.resize(96, 202);
+        assert_eq!(legs, expected_legs, "case {number}");
+
+        let (mut table_read, mut slots_read) = (vec![7; 2048], vec![8; 2176]);
+        read(&case.book, &mut table_read, &mut slots_read);
+        assert_eq!(
+            (&table, &slots),
+            (&table_read, &slots_read),
+            "case {number}"
+        );
+
+        let mut structs = [Leg {
+            item: 202,
+            upper: 202,
+            lower: 202,
+        }; 32];
+        let (mut table, mut slots) = (vec![7; 2048], vec![8; 2176]);
+        let mut plan = vec![201; 256];
+        let again = assemble_legs(
+            &case.book,
+            &case.run,
+            &mut table,
+            &mut slots,
+            &mut plan,
+            &mut structs,
+        );
+        assert_eq!(again, found, "case {number}");
+        assert_eq!(plan, expected_plan, "case {number}");
+        assert_eq!((table, slots), (table_read, slots_read), "case {number}");
+        let bytes: Vec<u8> = structs
+            .iter()
+            .flat_map(|l| [l.item, l.upper, l.lower])
+            .collect();
+        assert_eq!(bytes, expected_legs, "case {number}");
+    }
+}

@@ -1,0 +1,219 @@
+//! The calls of `libplanner.a`, with numbers and slices of any length.
+//!
+//! `include/rollback.h` says of each what it takes, its codes, and what it leaves in each buffer.
+#![allow(unsafe_code)]
+
+/// Entries of a lent table.
+pub const TABLE: usize = 2_048;
+/// Bytes of lent slots.
+pub const SLOTS: usize = 2_176;
+/// Bytes of a slot.
+pub const SLOT: usize = 34;
+/// Bytes of a lent plan.
+pub const PLAN: usize = 256;
+/// Bytes of lent legs.
+pub const LEGS: usize = 96;
+/// Lent legs as structs.
+pub const LEG_STRUCTS: usize = 32;
+/// Bytes of the largest book, and of writing's output.
+pub const BOOK_MAX: usize = 31_110;
+
+/// What reading and checking answer.
+#[repr(C)]
+#[derive(Clone, Copy, Debug, PartialEq, Eq)]
+pub struct Reading {
+    /// 0, or why the book was refused.
+    pub code: u64,
+    /// Where.
+    pub place: u64,
+    /// States.
+    pub n: u64,
+    /// Commands.
+    pub m: u64,
+    /// Items.
+    pub items: u64,
+}
+
+/// What assembling answers.
+#[repr(C)]
+#[derive(Clone, Copy, Debug, PartialEq, Eq)]
+pub struct Assembly {
+    /// 0, or why there is no plan.
+    pub code: u64,
+    /// Where.
+    pub place: u64,
+    /// Commands in the plan.
+    pub commands: u64,
+    /// Legs of the plan.
+    pub legs: u64,
+    /// The fewest commands from each point down to 0, or [`NONE`](crate::NONE).
+    pub fewest: [u16; 33],
+}
+
+/// What writing answers.
+#[repr(C)]
+#[derive(Clone, Copy, Debug, PartialEq, Eq)]
+pub struct Writing {
+    /// 0, or why nothing was written.
+    pub code: u64,
+    /// Where.
+    pub place: u64,
+    /// Bytes of the book.
+    pub length: u64,
+}
+
+/// What looking up the ridge repeater's table answers.
+#[repr(C)]
+#[derive(Clone, Copy, Debug, PartialEq, Eq)]
+pub struct Lookup {
+    /// 0, or 5 for a state or command that the repeater doesn't have.
+    pub code: u64,
+    /// 0.
+    pub place: u64,
+    /// The outcomes.
+    pub mask: u64,
+}
+
+/// One leg of a plan: an item, and the points of the run between which it leads back.
+#[repr(C)]
+#[derive(Clone, Copy, Debug, PartialEq, Eq)]
+pub struct Leg {
+    /// The item's number.
+    pub item: u8,
+    /// The point that it leads from.
+    pub upper: u8,
+    /// The point that it leads to.
+    pub lower: u8,
+}
+
+/// The archive's names, as in `include/rollback.h`.
+#[rustfmt::skip]
+mod sys {
+    use super::{Assembly, Leg, Lookup, Reading, Writing};
+
+    extern "C" {
+        pub fn rollback_read(
+            book: *const u8, book_len: usize,
+            table: *mut u64, table_len: usize,
+            slots: *mut u8, slots_len: usize,
+        ) -> Reading;
+        pub fn rollback_check(
+            book: *const u8, book_len: usize,
+            table: *mut u64, table_len: usize,
+            slots: *mut u8, slots_len: usize,
+        ) -> Reading;
+        pub fn rollback_assemble(
+            book: *const u8, book_len: usize,
+            run: *const u8, run_len: usize,
+            table: *mut u64, table_len: usize,
+            slots: *mut u8, slots_len: usize,
+            plan: *mut u8, plan_len: usize,
+            legs: *mut u8, legs_len: usize,
+        ) -> Assembly;
+        pub fn rollback_assemble_legs(
+            book: *const u8, book_len: usize,
+            run: *const u8, run_len: usize,
+            table: *mut u64, table_len: usize,
+            slots: *mut u8, slots_len: usize,
+            plan: *mut u8, plan_len: usize,
+            legs: *mut Leg, legs_len: usize,
+        ) -> Assembly;
+        pub fn rollback_write(
+            n: u64, m: u64, items: u64,
+            table: *const u64, table_len: usize,
+            slots: *const u8, slots_len: usize,
+            out: *mut u8, out_len: usize,
+        ) -> Writing;
+        pub fn rollback_ridge(state: u64, command: u64) -> Lookup;
+    }
+}
+
+// SAFETY, of every call below: the header asks for true lengths, for written buffers that overlap
+// nothing and that nobody else uses meanwhile, and for an aligned table. Slices have all of it by
+// their types. Every bit pattern is a value of each result and of Leg.
+
+/// Reads a book. Codes 0 to 7.
+#[rustfmt::skip]
+pub fn read(book: &[u8], table: &mut [u64], slots: &mut [u8]) -> Reading {
+    unsafe {
+        sys::rollback_read(
+            book.as_ptr(), book.len(),
+            table.as_mut_ptr(), table.len(),
+            slots.as_mut_ptr(), slots.len(),
+        )
+    }
+}
+
+/// Reads a book and checks its items. Codes 0 to 8.
+#[rustfmt::skip]
+pub fn check(book: &[u8], table: &mut [u64], slots: &mut [u8]) -> Reading {
+    unsafe {
+        sys::rollback_check(
+            book.as_ptr(), book.len(),
+            table.as_mut_ptr(), table.len(),
+            slots.as_mut_ptr(), slots.len(),
+        )
+    }
+}
+
+/// Checks a book and assembles the plan that undoes a run, its legs as bytes. Codes 0 to 11.
+#[rustfmt::skip]
+pub fn assemble(
+    book: &[u8],
+    run: &[u8],
+    table: &mut [u64],
+    slots: &mut [u8],
+    plan: &mut [u8],
+    legs: &mut [u8],
+) -> Assembly {
+    unsafe {
+        sys::rollback_assemble(
+            book.as_ptr(), book.len(),
+            run.as_ptr(), run.len(),
+            table.as_mut_ptr(), table.len(),
+            slots.as_mut_ptr(), slots.len(),
+            plan.as_mut_ptr(), plan.len(),
+            legs.as_mut_ptr(), legs.len(),
+        )
+    }
+}
+
+/// [`assemble`] with the legs as structs.
+#[rustfmt::skip]
+pub fn assemble_legs(
+    book: &[u8],
+    run: &[u8],
+    table: &mut [u64],
+    slots: &mut [u8],
+    plan: &mut [u8],
+    legs: &mut [Leg],
+) -> Assembly {
+    unsafe {
+        sys::rollback_assemble_legs(
+            book.as_ptr(), book.len(),
+            run.as_ptr(), run.len(),
+            table.as_mut_ptr(), table.len(),
+            slots.as_mut_ptr(), slots.len(),
+            plan.as_mut_ptr(), plan.len(),
+            legs.as_mut_ptr(), legs.len(),
+        )
+    }
+}
+
+/// Writes the book of a table and slots. Codes 0, 1, 5, 7.
+#[rustfmt::skip]
+pub fn write(n: u64, m: u64, items: u64, table: &[u64], slots: &[u8], out: &mut [u8]) -> Writing {
+    unsafe {
+        sys::rollback_write(
+            n, m, items,
+            table.as_ptr(), table.len(),
+            slots.as_ptr(), slots.len(),
+            out.as_mut_ptr(), out.len(),
+        )
+    }
+}
+
+/// Looks up the ridge repeater's table. Codes 0, 5.
+pub fn ridge(state: u64, command: u64) -> Lookup {
+    unsafe { sys::rollback_ridge(state, command) }
+}

@@ -1,0 +1,55 @@
+//! Roll-back plans for repeaters.
+//!
+//! A book holds a device's transition table and its items ("if these commands were sent, send
+//! those, provided the states before and after lie in these sets"). A run holds what was sent and
+//! heard. [`plan`] checks a book and assembles from its items the shortest chain that undoes a run.
+//!
+//! All judging and planning is done by `libplanner.a`, whose answers are proved; this crate lends it
+//! buffers and gives its answers types. [`calls`] has the calls themselves, of numbers and slices.
+//!
+//! Sets of states are 64-bit masks: state s is in a set when bit s is 1.
+//!
+//! ```
+//! // A switch: command 0 turns it off, command 1 on. "Off" undoes "on" if it was off before.
+//! let outcomes = [0b01, 0b10, 0b01, 0b10];
+//! let item = rollback::Item { forward: &[1], reverse: &[0], phi: 0b11, psi: 0b01 };
+//! let book = rollback::write(2, 2, &outcomes, &[item])?;
+//!
+//! // It was seen off, then command 1 was sent, then nothing was heard.
+//! let run = rollback::run(&[1], &[0b01, 0b11]);
+//! let plan = rollback::plan(&book, &run)?;
+//! assert_eq!(plan.commands(), [0]);
+//! assert_eq!(plan.to_string(), "send 0\nitem 0 from point 1 to 0\n");
+//!
+//! // Had it not been seen off, it may have been on before, and nothing in the book undoes that.
+//! let run = rollback::run(&[1], &[0b11, 0b11]);
+//! assert!(matches!(rollback::plan(&book, &run), Err(rollback::Fault::NoChain { .. })));
+//! # Ok::<(), rollback::Fault>(())
+//! ```
+#![deny(missing_docs)]
+#![deny(unsafe_code)]
+
+mod book;
+pub mod calls;
+mod fault;
+mod plan;
+
+pub use book::{write, Book, Item};
+pub use calls::Leg;
+pub use fault::Fault;
+pub use plan::{plan, run, Plan};
+
+/// In the 33 numbers of [`Plan::fewest`] and [`Fault::NoChain`]: no chain from that point.
+pub const NONE: u16 = 65_535;
+
+/// The outcomes of a command of the ridge repeater in a state. None for a state over 63 or a
+/// command over 15.
+///
+/// ```
+/// assert_eq!(rollback::ridge(0, 13), Some(15));
+/// assert_eq!(rollback::ridge(64, 0), None);
+/// ```
+pub fn ridge(state: u64, command: u64) -> Option<u64> {
+    let r = calls::ridge(state, command);
+    (r.code == 0).then_some(r.mask)
+}

@@ -1,0 +1,179 @@
+//! The library against the plain program on random books and runs, valid and damaged: every result
+//! and every byte of every buffer. ROLLBACK_SEED is the first seed (0), ROLLBACK_COUNT the number of
+//! inputs (100,000).
+
+use std::env;
+
+use rollback::calls as verified;
+use rollback_cases::{input, Input};
+use rollback_plain as plain;
+
+/// What a call answers and leaves behind.
+#[derive(Default)]
+struct After {
+    call: &'static str,
+    result: Vec<u64>,
+    table: Vec<u64>,
+    slots: Vec<u8>,
+    plan: Vec<u8>,
+    legs: Vec<u8>,
+    out: Vec<u8>,
+}
+
+impl After {
+    /// A call's lent buffers before it.
+    fn lent(call: &'static str, input: &Input) -> After {
+        After {
+            call,
+            table: input.table.clone(),
+            slots: input.slots.clone(),
+            plan: input.plan.clone(),
+            legs: input.legs.clone(),
+            ..After::default()
+        }
+    }
+
+    /// Where the two differ.
+    fn against(&self, other: &After) -> Vec<String> {
+        fn part<T: PartialEq + std::fmt::Debug>(name: &str, a: &[T], b: &[T]) -> Option<String> {
+            assert_eq!(a.len(), b.len());
+            let at = (0..a.len()).find(|&at| a[at] != b[at])?;
+            Some(format!(
+                "{name} at {at}: verified {:?}, plain {:?}",
+                a[at], b[at]
+            ))
+        }
+        let parts = [
+            part("result", &self.result, &other.result),
+            part("table", &self.table, &other.table),
+            part("slots", &self.slots, &other.slots),
+            part("plan", &self.plan, &other.plan),
+            part("legs", &self.legs, &other.legs),
+            part("out", &self.out, &other.out),
+        ];
+        parts.into_iter().flatten().collect()
+    }
+}
+
+/// All calls of a program on one input.
+macro_rules! answers {
+    ($name:ident, $program:ident) => {
+        fn $name(input: &Input) -> [After; 6] {
+            let mut read = After::lent("read", input);
+            let r = $program::read(&input.book, &mut read.table, &mut read.slots);
+            read.result = vec![r.code, r.place, r.n, r.m, r.items];
+
+            let mut check = After::lent("check", input);
+            let r = $program::check(&input.book, &mut check.table, &mut check.slots);
+            check.result = vec![r.code, r.place, r.n, r.m, r.items];
+
+            let mut assemble = After::lent("assemble", input);
+            let a = &mut assemble;
+            let (book, run) = (&input.book, &input.run);
+            let (table, slots, plan) = (&mut a.table, &mut a.slots, &mut a.plan);
+            let r = $program::assemble(book, run, table, slots, plan, &mut a.legs);
+            a.result = vec![r.code, r.place, r.commands, r.legs];
+            a.result.extend(r.fewest.map(u64::from));
+
+            let mut assemble_legs = After::lent("assemble_legs", input);
+            let a = &mut assemble_legs;
+            let mut legs: Vec<$program::Leg> = (input.leg_structs.iter())
+                .map(|&[item, upper, lower]| $program::Leg { item, upper, lower })
+                .collect();
+            let (table, slots, plan) = (&mut a.table, &mut a.slots, &mut a.plan);
+            let r = $program::assemble_legs(book, run, table, slots, plan, &mut legs);
+            a.result = vec![r.code, r.place, r.commands, r.legs];
+            a.result.extend(r.fewest.map(u64::from));
+            a.legs = legs
+                .iter()
+                .flat_map(|leg| [leg.item, leg.upper, leg.lower])
+                .collect();
+
+            let out = input.out.clone();
+            let mut write = After {
+                call: "write",
+                out,
+                ..After::default()
+            };
+            let (n, m, items) = (input.n, input.m, input.items);
+            let (table, slots) = (&input.write_table, &input.write_slots);
+            let r = $program::write(n, m, items, table, slots, &mut write.out);
+            write.result = vec![r.code, r.place, r.length];
+
+            let mut ridge = After {
+                call: "ridge",
+                ..After::default()
+            };
+            let r = $program::ridge(input.state, input.command);
+            ridge.result = vec![r.code, r.place, r.mask];
+
+            [read, check, assemble, assemble_legs, write, ridge]
+        }
+    };
+}
+answers!(by_library, verified);
+answers!(by_plain_program, plain);
+
+/// The calls with the codes that each has.
+const CODES: [(&str, &[u64]); 6] = [
+    ("read", &[0, 1, 2, 3, 4, 5, 6, 7]),
+    ("check", &[0, 1, 2, 3, 4, 5, 6, 7, 8]),
+    ("assemble", &[0, 1, 2, 3, 4, 5, 6, 7, 8, 9, 10, 11]),
+    ("assemble_legs", &[0, 1, 2, 3, 4, 5, 6, 7, 8, 9, 10, 11]),
+    ("write", &[0, 1, 5, 7]),
+    ("ridge", &[0, 5]),
+];
+
+fn number(name: &str, usual: u64) -> u64 {
+    env::var(name).map_or(usual, |value| value.parse().expect(name))
+}
+
+#[test]
+fn the_library_answers_as_the_plain_program() {
+    let first = number("ROLLBACK_SEED", 0);
+    let count = number("ROLLBACK_COUNT", 100_000);
+    let (mut compared, mut differ) = (0, 0);
+    let mut met = [[0; 12]; 6];
+    for seed in first..first + count {
+        let given = input(seed);
+        let before = given.clone();
+        let (library, plain) = (by_library(&given), by_plain_program(&given));
+        for (call, (v, p)) in library.iter().zip(&plain).enumerate() {
+            let differences = v.against(p);
+            for difference in differences.iter().filter(|_| differ < 20) {
+                println!("seed {seed}, {}: {difference}", v.call);
+            }
+            differ += u64::from(!differences.is_empty());
+            compared += 1;
+            met[call][p.result[0] as usize] += 1;
+        }
+        // What a call only reads stays too.
+        assert!(
+            given == before,
+            "seed {seed}: a call changed what it only reads"
+        );
+    }
+
+    let shown = |codes: &[u64], met: &[u64; 12]| {
+        let counts = codes
+            .iter()
+            .map(|&code| format!("{code}: {}", met[code as usize]));
+        counts.collect::<Vec<_>>().join(", ")
+    };
+    for ((call, codes), met) in CODES.iter().zip(&met) {
+        println!("{call}: codes {}", shown(codes, met));
+    }
+    let total = std::array::from_fn(|code| met.iter().map(|met| met[code]).sum());
+    println!(
+        "{count} inputs, seeds {first} to {}: {compared} calls compared, {differ} differ; codes {}",
+        first + count - 1,
+        shown(CODES[2].1, &total)
+    );
+    assert_eq!(differ, 0);
+    for ((call, codes), met) in CODES.iter().zip(&met) {
+        let missed = codes
+            .iter()
+            .find(|&&code| met[code as usize] == 0 && count >= 100_000);
+        assert_eq!(missed, None, "{call} never met this code");
+    }
+}

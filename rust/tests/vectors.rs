@@ -1,0 +1,105 @@
+//! The cases of a second program, `vectors/`, against the library.
+
+use rollback::calls::{self, Leg, Reading};
+use rollback_cases::{assemble_cases, book_cases, ridge_masks, write_cases};
+
+const FILL: u8 = 0xA5;
+
+#[test]
+fn books() {
+    let cases = book_cases();
+    for (number, case) in cases.iter().enumerate() {
+        let judge = |call: fn(&[u8], &mut [u64], &mut [u8]) -> Reading, expected: [u64; 5]| {
+            let (mut table, mut slots) = (case.table.clone(), case.slots.clone());
+            let r = call(&case.book, &mut table, &mut slots);
+            assert_eq!(
+                [r.code, r.place, r.n, r.m, r.items],
+                expected,
+                "book {number}"
+            );
+            // Reading leaves what checking does, which the files give.
+            assert_eq!(table[..40], case.table_after, "table of book {number}");
+            assert_eq!(slots[..102], case.slots_after, "slots of book {number}");
+        };
+        judge(calls::read, case.reading);
+        judge(calls::check, case.checking);
+    }
+    println!("books: {} cases read and checked", cases.len());
+    assert_eq!(cases.len(), 900);
+}
+
+#[test]
+fn plans() {
+    let cases = assemble_cases();
+    for (number, case) in cases.iter().enumerate() {
+        let mut plan_after = [FILL; calls::PLAN];
+        plan_after[..case.plan.len()].copy_from_slice(&case.plan);
+        let mut legs_after = [FILL; calls::LEGS];
+        legs_after[..3 * case.leg_list.len()].copy_from_slice(case.leg_list.as_flattened());
+        let (mut table, mut slots) = ([0; calls::TABLE], [0; calls::SLOTS]);
+
+        let (mut plan, mut legs) = ([FILL; calls::PLAN], [FILL; calls::LEGS]);
+        let (book, run) = (&case.book, &case.run);
+        let r = calls::assemble(book, run, &mut table, &mut slots, &mut plan, &mut legs);
+        let head = [case.code, case.place, case.commands, case.legs];
+        assert_eq!([r.code, r.place, r.commands, r.legs], head, "case {number}");
+        assert_eq!(r.fewest, case.fewest, "numbers of case {number}");
+        assert_eq!(plan, plan_after, "plan of case {number}");
+        assert_eq!(legs, legs_after, "legs of case {number}");
+
+        let mut plan = [FILL; calls::PLAN];
+        let mut legs = [Leg {
+            item: FILL,
+            upper: FILL,
+            lower: FILL,
+        }; calls::LEG_STRUCTS];
+        let s = calls::assemble_legs(book, run, &mut table, &mut slots, &mut plan, &mut legs);
+        assert_eq!(s, r, "case {number} with structs");
+        assert_eq!(plan, plan_after, "plan of case {number} with structs");
+        let legs = legs.map(|leg| [leg.item, leg.upper, leg.lower]);
+        assert_eq!(legs.as_flattened(), legs_after, "structs of case {number}");
+    }
+    println!(
+        "plans: {} cases assembled, with legs as bytes and as structs",
+        cases.len()
+    );
+    assert_eq!(cases.len(), 1_626);
+}
+
+#[test]
+fn writing() {
+    let cases = write_cases();
+    for (number, case) in cases.iter().enumerate() {
+        let mut out = case.out.clone();
+        let r = calls::write(
+            case.n,
+            case.m,
+            case.items,
+            &case.table,
+            &case.slots,
+            &mut out,
+        );
+        let expected = [case.code, case.place, case.length];
+        assert_eq!([r.code, r.place, r.length], expected, "case {number}");
+        let (given, rest) = out.split_at(case.out_after.len());
+        assert_eq!(given, case.out_after, "output of case {number}");
+        assert_eq!(
+            rest,
+            &case.out[given.len()..],
+            "output of case {number} past the book"
+        );
+    }
+    println!("writing: {} cases", cases.len());
+    assert_eq!(cases.len(), 500);
+}
+
+#[test]
+fn ridge() {
+    let masks = ridge_masks();
+    for (entry, &mask) in masks.iter().enumerate() {
+        let r = calls::ridge(entry as u64 / 16, entry as u64 % 16);
+        assert_eq!([r.code, r.place, r.mask], [0, 0, mask], "entry {entry}");
+    }
+    println!("ridge: {} masks", masks.len());
+    assert_eq!(masks.len(), 1_024);
+}

@@ -18,17 +18,11 @@ fn runs_back(set: StateSet, table: &[u64], n: u64, m: u64, commands: &[u8], goal
         return set.is_only(goal);
     }
     let command = num::byte_at(commands, 0);
-    if !set.able(table, n, m, command) {
+    let next = set.sent(table, n, m, command);
+    if !next.able {
         return false;
     }
-    runs_back(
-        set.after(table, n, m, command),
-        table,
-        n,
-        m,
-        &commands[1..],
-        goal,
-    )
+    runs_back(next.set, table, n, m, &commands[1..], goal)
 }
 
 // The first of the items in the slots that is not accepted, or their number. For each start in psi, the ends in phi are run back

@@ -8,6 +8,7 @@ use Rattle.reversal.specs.Device.{tabled}
 use Rattle.reversal.specs.Computed.Sets.{runsBack}
 use Rattle.states.specs.declared.StateSet.{StateSet}
 use Rattle.states.specs.StateSets.{afterIn, ableIn}
+use Rattle.states.proofs.Laws.{sent-able, sent-set}
 use Rattle.checker.proofs.Laws.{back-none, back-fails, back-more}
 use Prim.Native.Nat.{ℕ, _-_, _<_}
 use borrow.Fn.Kinds.{In}
@@ -16,9 +17,8 @@ use Rattle.checker.proofs.runs_back.Reads as runs-back
 use Rattle.checker.proofs.runs_back.Kinds as runs-back-kinds
 use Rattle.checker.proofs.+runs_back.Lts-runs_back as runs-back-lts
 use Rattle.num.proofs.byte_at.Reads as byte-at-reads
-use Rattle.states.proofs.StateSet.able.Reads as able-reads
-use Rattle.states.proofs.StateSet.after.Reads as after-reads
 use Rattle.states.proofs.StateSet.is_only.Reads as is-only-reads
+use Rattle.states.proofs.StateSet.sent.Reads as sent-reads
 use Rattle.checker.proofs.+runs_back.{statement}
 use Rattle.checker.proofs.+runs_back.Tie.{close}
 
@@ -33,7 +33,7 @@ runs-back-below t =
     and 2 runs-back-kinds.ps (falls 2 runs-back-kinds.ps _<_ μ-runs-back t) runs-back.Pre
 
 abbrev runs-back-told : ℕ → runs-back-lts.Claims
-runs-back-told t = (is-only-reads.Asked, is-only-reads.Learnt, byte-at-reads.Asked, byte-at-reads.Learnt, able-reads.Asked, able-reads.Learnt, after-reads.Asked, after-reads.Learnt, runs-back-below t, runs-back.Post)
+runs-back-told t = (is-only-reads.Asked, is-only-reads.Learnt, byte-at-reads.Asked, byte-at-reads.Learnt, sent-reads.Asked, sent-reads.Learnt, runs-back-below t, runs-back.Post)
 
 runs-back-is-only-requires : (t : ℕ) → runs-back-lts.Need-is-only-requires (runs-back-told t) (runs-back-at t) runs-back.Post
 runs-back-is-only-requires t c κs = search needs
@@ -47,18 +47,16 @@ runs-back-returns t c =
 runs-back-byte-at-requires : (t : ℕ) → runs-back-lts.Need-byte-at-requires (runs-back-told t) (runs-back-at t) runs-back.Post
 runs-back-byte-at-requires t c κs = search needs
 
-runs-back-able-requires : (t : ℕ) → runs-back-lts.Need-able-requires (runs-back-told t) (runs-back-at t) runs-back.Post
-runs-back-able-requires t c κs = search needs
+runs-back-sent-requires : (t : ℕ) → runs-back-lts.Need-sent-requires (runs-back-told t) (runs-back-at t) runs-back.Post
+runs-back-sent-requires t c κs = search needs
 
 runs-back-returns-2 : (t : ℕ) → runs-back-lts.Need-returns-2 (runs-back-told t) (runs-back-at t) runs-back.Post
 runs-back-returns-2 t c =
-    let a = c .before .before .before .before .before .before .args in
-    back-fails (a .n) (a .m) (a .table .now) (a .goal) (omega arith) (omega arith) (a .commands .now) (a .set .mask) (c .before .before .before .if1 .left)
-    (ap (λ (x : ℕ). ableIn (a .n) (a .m) (a .table .now) x (a .set .mask)) (sym (c .before .before .byte-at .ensures .0))
-    ∙ sym (c .before .able .ensures) ∙ not-true _ (c .if2 .taken))
-
-runs-back-after-requires : (t : ℕ) → runs-back-lts.Need-after-requires (runs-back-told t) (runs-back-at t) runs-back.Post
-runs-back-after-requires t c κs = search needs
+    let a = c .before .before .before .before .before .before .before .args in
+    let read = c .before .before .before .byte-at .ensures .0 in
+    let able = sent-able (a .n) (a .m) (a .table .now) _ (a .set .mask) _ (c .before .before .sent .ensures) in
+    back-fails (a .n) (a .m) (a .table .now) (a .goal) (omega arith) (omega arith) (a .commands .now) (a .set .mask) (c .before .before .before .before .if1 .left)
+    (ap (λ (x : ℕ). ableIn (a .n) (a .m) (a .table .now) x (a .set .mask)) (sym read) ∙ sym able ∙ not-true _ (c .if2 .taken))
 
 runs-back-sub-runs-back : (t : ℕ) → runs-back-lts.Need-sub-runs-back (runs-back-told t) (runs-back-at t) runs-back.Post
 runs-back-sub-runs-back t c = omega arith
@@ -76,14 +74,16 @@ runs-back-returns-3 : (t : ℕ) → runs-back-lts.Need-returns-3 (runs-back-told
 runs-back-returns-3 t c =
     let a = c .before .before .before .before .before .before .before .before .before .args in
     let read = c .before .before .before .before .before .byte-at .ensures .0 in
+    let sent = c .before .before .before .before .sent .ensures in
+    let able = sym (sent-able (a .n) (a .m) (a .table .now) _ (a .set .mask) _ sent) ∙ not-false _ (c .before .before .if2 .left) in
     c .runs-back .ensures
     ∙ ap (λ (x : StateSet). runsBack (tabled (a .n) (a .m) (a .table .now)) (x .mask) (take (length (a .commands .now) - 1) (drop 1 (a .commands .now))) (a .goal))
-    (c .before .before .after .ensures)
+    (sent-set (a .n) (a .m) (a .table .now) _ (a .set .mask) _ sent able)
     ∙ ap
     (λ (x : ℕ). runsBack (tabled (a .n) (a .m) (a .table .now)) (afterIn (a .n) (a .m) (a .table .now) x (a .set .mask)) (take (length (a .commands .now) - 1) (drop 1 (a .commands .now))) (a .goal))
     read
     ∙ back-more (a .n) (a .m) (a .table .now) (a .goal) (omega arith) (omega arith) (a .commands .now) (a .set .mask) (c .before .before .before .before .before .before .if1 .left)
-    (ap (λ (x : ℕ). ableIn (a .n) (a .m) (a .table .now) x (a .set .mask)) (sym read) ∙ sym (c .before .before .before .before .able .ensures) ∙ not-false _ (c .before .before .before .if2 .left))
+    (ap (λ (x : ℕ). ableIn (a .n) (a .m) (a .table .now) x (a .set .mask)) (sym read) ∙ able)
 
 pub +runs-back-spec : {M : Type 1} → statement M
 +runs-back-spec = close μ-runs-back λ t. runs-back-lts.spec (runs-back-told t)
@@ -92,9 +92,8 @@ pub +runs-back-spec : {M : Type 1} → statement M
     (runs-back-is-only-requires t)
     (runs-back-returns t)
     (runs-back-byte-at-requires t)
-    (runs-back-able-requires t)
+    (runs-back-sent-requires t)
     (runs-back-returns-2 t)
-    (runs-back-after-requires t)
     (runs-back-sub-runs-back t)
     (runs-back-part-runs-back-start t)
     (runs-back-part-runs-back-end t)

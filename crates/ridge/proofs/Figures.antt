@@ -8,7 +8,7 @@ use Rattle.base.specs.Tests.{pick}
 use Rattle.base.specs.Bounded.{union}
 use Rattle.ridge.specs.Ridge.{channel, power, mode}
 use Rattle.ridge.specs.Computed.{single, ruleMask}
-use Rattle.ridge.proofs.Table.{masks}
+use Rattle.ridge.specs.Masks.{masks}
 
 -- "State = c + 4 × p + 16 × q: channel c, power p, mode q, each 0 to 3"
 pub coordinates : (s : ℕ) → s ≤ 63 → (s ≡ channel s + 4 * power s + 16 * mode s) × (channel s ≤ 3) × (power s ≤ 3) × (mode s ≤ 3)

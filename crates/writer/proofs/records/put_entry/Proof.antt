@@ -7,7 +7,7 @@ use Rattle.writer.proofs.records.put_entry.Statement.{statement}
 use Rattle.writer.proofs.records.put_entry.Tie as tie
 
 returns : tie.Need-returns
-returns c = 
+returns c =
     let e = row-none (c .before .before .args .mask) (c .before .before .args .state) (c .before .before .args .command) (c .if1 .taken) in
     (rw (← e), (rw (← e) (omega arith), omega arith))
 
@@ -21,7 +21,7 @@ same-length : tie.Need-same-length
 same-length c = search needs
 
 returns-2 : tie.Need-returns-2
-returns-2 c = 
+returns-2 c =
     let a = c .before .before .before .before .before .before .args in
     let e = row-some (a .mask) (a .state) (a .command) (c .before .before .before .before .if1 .left) in
     (rw (← e) (c .before .before .put-move .ensures), (rw (← e) (omega (arith, length-move (a .state) (a .command) (a .mask))), omega arith))

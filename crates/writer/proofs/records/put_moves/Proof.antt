@@ -13,7 +13,7 @@ use Rattle.writer.proofs.records.put_moves.Statement.{statement}
 use Rattle.writer.proofs.records.put_moves.Tie as tie
 
 abbrev Inv-loop : tie.InvT-loop
-Inv-loop k t m d₀ at i₀ p₀ cell₀ d i p cell = 
+Inv-loop k t m d₀ at i₀ p₀ cell₀ d i p cell =
     (sets d p (movesBytes (k - i) t i m) ≡ sets d₀ at (movesBytes k t 0 m))
     × (p + length (movesBytes (k - i) t i m) ≡ at + length (movesBytes k t 0 m))
     × (p ≤ at + 14 * i)
@@ -43,7 +43,7 @@ loop-less : tie.Need-loop-less Inv-loop μ-loop
 loop-less c = search needs
 
 loop-again : tie.Need-loop-again Inv-loop μ-loop
-loop-again c = 
+loop-again c =
     let a = c .before .before .before .before .before .before .before .before .before .before .args in
     let v = c .before .before .before .before .before .before .before .loop in
     let o = c .before .before .before .put-entry .ensures in
@@ -63,7 +63,7 @@ same-length : tie.Need-same-length Inv-loop μ-loop
 same-length c = search needs
 
 returns : tie.Need-returns Inv-loop μ-loop
-returns c = 
+returns c =
     let a = c .before .before .before .before .args in
     let v = c .before .loop in
     let rows = move-rows (a .t .now) (a .m) in

@@ -8,6 +8,8 @@ use native.Mathlib.Nat.{le-trans}
 use native.Mathlib.Omega.{arith}
 use lib.ListN.{length, take}
 use lib.Seq.{sets}
+use Rattle.base.specs.Lists.{Written}
+use Rattle.base.proofs.Lists.{stored}
 use Rattle.base.proofs.Picks as picks
 use Rattle.reversal.specs.Runs.{Run, last}
 use Rattle.reversal.specs.Chains.{Best, Chain, plan, legs, Undoes}
@@ -20,19 +22,18 @@ use Rattle.book.proofs.Device.{device-proper}
 use Rattle.book.proofs.Codes.{refusal-codes}
 use Rattle.reader.specs.declared.Reading.{Reading}
 use Rattle.reader.specs.Reads.{Long}
-use Rattle.reader.specs.Reads as reads
 use Rattle.checker.specs.Checks.{AcceptedBook, Checks}
 use Rattle.checker.specs.Checks as ways
 use Rattle.checker.proofs.Onward.{accepted-by}
 use Rattle.runs.specs.Computed.{runOf, runFaulty}
 use Rattle.runs.proofs.Formed.{run-unique, run-passes}
 use Rattle.assembly.specs.declared.Assembly.{Assembly}
-use Rattle.assembly.specs.Assembles.{refusal, resultOf, LegForm, Written, Room, Assembles, short, unaccepted, faulty, answered}
+use Rattle.assembly.specs.Assembles.{refusal, resultOf, LegForm, Room, Assembles, short, unaccepted, faulty, answered}
 use Rattle.assembly.specs.Contract.{answerOf, plannedBy, assembleBy, AssembleAs}
 use Rattle.assembly.specs.Cases.{Left}
 use Rattle.assembly.specs.Demand.{Given, Ready, Planned, Demand}
 use Rattle.assembly.proofs.Answers.{room-enough}
-use Rattle.assembly.proofs.Exactly.{stored, Even, length-legs, Small, answer-small, held-small, assembles}
+use Rattle.assembly.proofs.Exactly.{Even, length-legs, Small, answer-small, held-small, assembles}
 
 -- checking has no code above 8
 check-codes : {s t d : List ℕ} {c : Reading} {t′ d′ : List ℕ} → Checks s t d c t′ d′ → c .code ≤ 8

@@ -1,18 +1,18 @@
 -- The contract of assembling gives what 01 says, of books, runs, histories and chains. Assumes nothing.
-use mathlib.Core.Path.{_≡_, refl, sym, ap, _∙_, subst, subst₂}
+use mathlib.Core.Path.{_≡_, refl, sym, _∙_, subst, subst₂}
 use mathlib.Core.Bool.{Bool, true, false}
 use mathlib.Core.Logic.{inl, inr}
-use mathlib.Core.List.{List, [], _∷_, _++_}
-use Prim.Native.Nat.{ℕ, _+_, _-_, _*_, _≤_, _<_}
+use mathlib.Core.List.{List, [], _∷_}
+use Prim.Native.Nat.{ℕ, _-_, _*_, _≤_, _<_}
 use native.Mathlib.Decide.{decLt}
 use native.Mathlib.Nat.{le-trans, mul-comm, mul-le-mul-left}
 use native.Mathlib.Omega.{arith}
 use lib.Dec.{T}
-use lib.ListN.{length, getD, take, drop, length-append}
-use lib.Seq.{sets, sets-eq, take-at, getD-append-add, getD-drop, length-sets}
+use lib.ListN.{length, length-append}
+use lib.Seq.{sets}
 use Rattle.base.specs.Lists.{Each}
 use Rattle.base.proofs.Picks as picks
-use Rattle.base.proofs.Lists.{each-at}
+use Rattle.base.proofs.Lists.{each-at, stored}
 use Rattle.reversal.specs.Device.{Device}
 use Rattle.reversal.specs.Reversal.{Item, AllowedItem}
 use Rattle.reversal.specs.Runs.{Run, last}
@@ -30,29 +30,9 @@ use Rattle.checker.proofs.Onward.{BookChecked, book-checked, checked-by, unchec
 use Rattle.runs.specs.Computed.{runOf, runFaulty}
 use Rattle.runs.proofs.Formed.{run-value, run-formed}
 use Rattle.assembly.specs.declared.Assembly.{Assembly}
-use Rattle.assembly.specs.Assembles.{refusal, resultOf, legsBytes, LegForm, inBytes, Written, RoomShort, Room, Assembles, short, unaccepted, faulty, answered}
+use Rattle.assembly.specs.Assembles.{refusal, resultOf, legsBytes, LegForm, inBytes, RoomShort, Room, Assembles, short, unaccepted, faulty, answered}
 use Rattle.assembly.specs.Contract.{answerOf, plannedBy, roomBy, assembleBy, AssembleAs}
 use Rattle.assembly.proofs.Answers.{either-short, room-enough}
-
--- ---- a row stored at the start of a buffer that has room for it
-pub stored : {E : Type 0} (bytes old new : List E) → length bytes ≤ length old → new ≡ sets old 0 bytes → Written bytes old new
-stored {E} bytes old new l e =
-    record {
-      front = ap (take (length bytes)) whole ∙ take-at bytes (drop (length bytes) old) (length bytes) refl;
-      kept = λ i z h. kept i (i - length bytes) (omega arith) z;
-      size = ap (λ (x : List E). length x) e ∙ length-sets old 0 bytes;
-    }
-  where
-    whole : new ≡ bytes ++ drop (length bytes) old
-    whole = let z : 0 + length bytes ≡ length bytes = omega arith in e ∙ sets-eq bytes old 0 (omega arith) ∙ ap (λ (k : ℕ). bytes ++ drop k old) z
-
-    kept : (i k : ℕ) → i ≡ length bytes + k → (z : E) → getD new i z ≡ getD old i z
-    kept i k q z =
-        ap (λ (x : List E). getD x i z) whole
-        ∙ ap (λ (x : ℕ). getD (bytes ++ drop (length bytes) old) x z) q
-        ∙ getD-append-add bytes (drop (length bytes) old) k z
-        ∙ getD-drop (length bytes) old k z
-        ∙ ap (λ (x : ℕ). getD old x z) (sym q)
 
 -- ---- a chain has at most 8 commands and one item for each point passed
 module _ (d : Device) (r : Run) (items : List Item) (each : Each (AllowedItem d) items) where

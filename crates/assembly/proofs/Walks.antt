@@ -1,21 +1,18 @@
 -- The walk down the items, step by step. Assumes nothing.
 use mathlib.Core.Path.{_≡_, refl, sym, ap, _∙_, subst}
 use mathlib.Core.List.{List, [], _∷_, _++_}
-use Prim.Native.Nat.{ℕ, zero, suc, _+_, _-_, _*_, _%_, _≤_, _<_}
+use Prim.Native.Nat.{ℕ, zero, suc, _+_, _-_, _*_, _≤_, _<_}
 use native.Mathlib.Omega.{arith}
 use lib.ListN.{length, getD, length-append}
 use lib.Seq.{sets, length-sets}
 use Rattle.num.specs.Le.{bytesLe, piece}
+use Rattle.num.proofs.Le.{byte-one}
 use Rattle.num.proofs.Put.{sets-append, length-piece}
 use Rattle.assembly.specs.Rules.{kAt, rAt}
 use Rattle.assembly.specs.Walk.{followed, Steps, planIn, legBytes, legsIn, walk}
 use Rattle.assembly.specs.Walking.{Walking}
 
 -- ---- a leg in three stores
-byte-one : (v : ℕ) → v < 256 → bytesLe 1 v ≡ v ∷ []
-unfolding bytesLe
-byte-one v h = let e : v % 256 ≡ v = omega arith in rw e
-
 pub leg-stored : (l : List ℕ) (at a u v : ℕ) {d e f : List ℕ} → a < 256 → u < 256 → v < 256 → d ≡ sets l at (bytesLe 1 a)
     → e ≡ sets d (at + 1) (bytesLe 1 u) → f ≡ sets e (at + 2) (bytesLe 1 v) → f ≡ sets l at (legBytes a u v)
 leg-stored l at a u v {d} {e} {f} ha hu hv p q r =

@@ -4,7 +4,8 @@ use mathlib.Core.Path.{_≡_}
 use mathlib.Core.Logic.{_⊎_}
 use mathlib.Core.List.{List, [], _∷_}
 use Prim.Native.Nat.{ℕ, _*_, _≤_, _<_}
-use lib.ListN.{length, getD, take, replicate}
+use lib.ListN.{length, replicate}
+use Rattle.base.specs.Lists.{Written}
 use Rattle.reversal.specs.Runs.{Run, AllowedRun}
 use Rattle.reversal.specs.Chains.{Leg, none}
 use Rattle.reversal.specs.Answers.{Answer, Answers}
@@ -36,12 +37,6 @@ pub record LegForm (E : Type 0) : Type 0 where
 -- as plain bytes; the structs of the exported call stand in planner/specs/Structs
 abbrev pub inBytes : LegForm ℕ
 inBytes = record { width = 3; held = legsBytes }
-
--- "plan bytes and legs past the counts keep what they held"; z stands for what lies past the end
-pub record Written {E : Type 0} (row old new : List E) : Type 0 where
-  pub front : take (length row) new ≡ row
-  pub kept : (i : ℕ) (z : E) → length row ≤ i → getD new i z ≡ getD old i z
-  pub size : length new ≡ length old
 
 -- "a plan buffer (256 bytes) and 32 legs"
 abbrev pub RoomShort : {E : Type 0} → LegForm E → List ℕ → List E → Type 0

@@ -3,6 +3,7 @@ use mathlib.Core.Path.{_≡_}
 use mathlib.Core.List.{List, [], _∷_}
 use lib.ListN.{replicate}
 use Prim.Native.Nat.{ℕ}
+use Rattle.base.specs.Lists.{Written}
 use Rattle.reversal.specs.Runs.{Run}
 use Rattle.reversal.specs.Chains.{none}
 use Rattle.reversal.specs.Answers.{Answer, refused}
@@ -11,7 +12,7 @@ use Rattle.book.specs.Example.{bytesQ}
 use Rattle.reader.specs.Reads.{Long}
 use Rattle.runs.specs.RunBytes.{runBytes}
 use Rattle.assembly.specs.declared.Assembly.{Assembly}
-use Rattle.assembly.specs.Assembles.{resultOf, LegForm, Written, Room}
+use Rattle.assembly.specs.Assembles.{resultOf, LegForm, Room}
 use Rattle.assembly.specs.Contract.{AssembleAs}
 
 -- the answer a as result, plan and legs

@@ -5,15 +5,13 @@ use Prim.Native.Nat.{ℕ, suc, _+_, _-_, _*_, _≤_, _<_}
 use native.Mathlib.Decide.{decLt}
 use native.Mathlib.Omega.{arith}
 use mathlib.Core.Logic.{inr}
-use lib.ListN.{length, getD, set, drop, replicate, length-append}
+use lib.ListN.{length, getD, set, drop, length-append}
 use lib.Seq.{sets, sets-eq, getD-append-add}
 use Rattle.base.specs.Lists.{Each}
-use Rattle.base.specs.Tests.{pick}
-use Rattle.base.specs.Compare.{less}
 use Rattle.reversal.specs.Chains as chains
 use Rattle.reversal.specs.Answers.{Answer}
 use Rattle.assembly.specs.declared.Assembly.{Assembly}
-use Rattle.assembly.specs.Assembles.{refusal, resultOf, legsBytes, inBytes, LegForm}
+use Rattle.assembly.specs.Assembles.{refusal, resultOf, legsBytes, inBytes}
 use Rattle.assembly.specs.Contract.{roomBy, assembleBy, AssembleAs}
 use Rattle.assembly.proofs.Answers.{either-short, legs-enough}
 use Rattle.assembly.proofs.Exactly.{Even, even-bytes, Outcome, refused, given, outcome}

@@ -1,13 +1,14 @@
 -- 01's runs Q5, Q6 and Q8 on Q with leg structs, for the reader. Assumes nothing: these are definitions.
 use mathlib.Core.List.{List, [], _∷_}
 use Prim.Native.Nat.{ℕ}
+use Rattle.base.specs.Lists.{Written}
 use Rattle.reversal.specs.Runs.{Run}
 use Rattle.reversal.specs.Twelve.{run}
 use Rattle.book.specs.Example.{bytesQ}
 use Rattle.reader.specs.Reads.{Long}
 use Rattle.runs.specs.RunBytes.{runBytes}
 use Rattle.assembly.specs.declared.Assembly.{Assembly}
-use Rattle.assembly.specs.Assembles.{Written, Room}
+use Rattle.assembly.specs.Assembles.{Room}
 use Rattle.assembly.specs.Contract.{AssembleAs}
 use Rattle.planner.specs.declared.Leg.{Leg}
 use Rattle.planner.specs.Structs.{inStructs}

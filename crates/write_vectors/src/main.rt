@@ -1,6 +1,5 @@
 // Runs the 500 cases of writes.bin, made by a second program, through `writer::write`, and prints for each the answer and the output's first bytes.
 // A case has 511 bytes: n, m and the count, 8 bytes each; a byte that says which buffer is one short; 48 entries, 8 bytes each; 3 slots.
-use libc::STDOUT_FILENO;
 use writer::Writing;
 ghost use Prim.Native.Nat.{_≤_};
 
@@ -24,24 +23,6 @@ fn size(stated: usize, short: bool) -> usize
         return 0;
     }
     if short { stated - 1 } else { stated }
-}
-
-fn print_word(n: u64) {
-    io::print_decimal(STDOUT_FILENO, n);
-    io::write_all(STDOUT_FILENO, b" ");
-}
-
-fn print_last(n: u64) {
-    io::print_decimal(STDOUT_FILENO, n);
-    io::write_all(STDOUT_FILENO, b"\n");
-}
-
-// The bytes 0 to last, on a line.
-fn print_bytes(bytes: &[u8], last: usize) {
-    for i in 0..last {
-        print_word(num::byte_at(bytes, i));
-    }
-    print_last(num::byte_at(bytes, last));
 }
 
 // Fills the lent buffers and writes; each buffer is lent on whole, or one short.
@@ -68,12 +49,11 @@ fn run(case: &[u8]) {
     let mut slots = [0u8; 2176];
     let mut out = [90u8; 31110];
     let r = write_case(case, &mut table, &mut slots, &mut out);
-    print_word(r.code);
-    print_word(r.place);
-    print_last(r.length);
+    let row = [r.code, r.place, r.length];
+    vectors::print_numbers(&row, 3);
     let length = r.length;
     if length < 31107 {
-        print_bytes(&out, length as usize + 3);
+        vectors::print_bytes(&out, length as usize + 4);
     }
 }
 

@@ -1,17 +1,17 @@
 -- The contract says what Writes says, both ways; so the answer is determined. Assumes nothing.
 use mathlib.Core.Path.{_≡_, refl, sym, ap, _∙_}
 use mathlib.Core.Logic.{_⊎_, inl, inr, Dec·and}
-use mathlib.Core.List.{List, _++_}
-use Prim.Native.Nat.{ℕ, _+_, _-_, _*_, _<_, _≤_}
-use native.Mathlib.Nat.{zero-add}
+use mathlib.Core.List.{List}
+use Prim.Native.Nat.{ℕ, _-_, _*_, _<_, _≤_}
 use native.Mathlib.Omega.{arith}
 use native.Mathlib.Decide.{map-dec, decLe, decLt}
-use lib.ListN.{length, getD, drop}
-use lib.Seq.{sets, sets-eq, length-sets, take-at, getD-append-add, getD-drop, getD-take, ext-getD}
+use lib.ListN.{length, getD}
+use lib.Seq.{sets}
 use Rattle.base.specs.Lists.{Each}
 use Rattle.base.specs.Masks.{clearFrom}
 use Rattle.reversal.specs.Device.{tabled}
 use Rattle.book.specs.Book.{AllowedDevice, bytesOf}
+use Rattle.base.proofs.Lists.{stored, same-written}
 use Rattle.book.specs.Buffers.{bookFrom, Writable}
 use Rattle.book.proofs.Fields.{clear-of, clear-on}
 use Rattle.book.proofs.Largest.{length-book}
@@ -28,37 +28,8 @@ use Rattle.writer.proofs.Chain.{at-short, at-device, at-count, at-entry
 
 -- ---- the output
 module _ (book out : List ℕ) (room : length book ≤ length out) where
-  front : sets out 0 book ≡ book ++ drop (length book) out
-  front = sets-eq book out 0 (omega arith) ∙ ap (λ (k : ℕ). book ++ drop k out) (zero-add (length book))
-
-  stored : BookWritten book out (written (length book)) (sets out 0 book)
-  stored =
-      record {
-        answer = refl;
-        front = rw front (take-at book (drop (length book) out) (length book) refl);
-        kept = kept;
-        size = length-sets out 0 book;
-      }
-    where
-      kept : (i : ℕ) → length book ≤ i → getD (sets out 0 book) i 0 ≡ getD out i 0
-      kept i h =
-          let ys = drop (length book) out in
-          let e : i ≡ length book + (i - length book) = omega arith in
-          rw front
-          (ap (λ (j : ℕ). getD (book ++ ys) j 0) e
-          ∙ (getD-append-add book ys (i - length book) 0 ∙ (getD-drop (length book) out (i - length book) 0 ∙ ap (λ (j : ℕ). getD out j 0) (sym e))))
-
-same-output : {book out o p : List ℕ} {r q : Writing} → BookWritten book out r o → BookWritten book out q p → o ≡ p
-same-output {book} {out} {o} {p} a b = ext-getD 0 o p (a .size ∙ sym (b .size)) at
-  where
-    at : (i : ℕ) → i < length o → getD o i 0 ≡ getD p i 0
-    at i l = go (decLt i (length book))
-      where
-        go : Dec (i < length book) → getD o i 0 ≡ getD p i 0
-        go (yes h) =
-            sym (getD-take (length book) o i 0 h)
-            ∙ (ap (λ (s : List ℕ). getD s i 0) (a .front ∙ sym (b .front)) ∙ getD-take (length book) p i 0 h)
-        go (no h) = a .kept i (omega arith) ∙ sym (b .kept i (omega arith))
+  book-stored : BookWritten book out (written (length book)) (sets out 0 book)
+  book-stored = record { answer = refl; bytes = stored book out (sets out 0 book) room refl }
 
 module _ (n m items : ℕ) (table slots out : List ℕ) where
   -- ---- what the tests tell
@@ -154,7 +125,7 @@ module _ {n m items : ℕ} {table slots out : List ℕ} where
               a .result ∙ sym (fine-is n m items table slots out _ _ long w),
               a .output ∙ sym (fine-is n m items table slots out _ _ long w),
             )
-            (stored _ out (book-room n m items table slots out long w)))
+            (book-stored _ out (book-room n m items table slots out long w)))
 
     -- the two equations of the contract
     writes-is : Writes n m items table slots out r out′
@@ -163,7 +134,7 @@ module _ {n m items : ℕ} {table slots out : List ℕ} where
     writes-is (refused q e f) = (e ∙ refused-is n m items table slots out _ _ q, f ∙ refused-is n m items table slots out _ _ q)
     writes-is (done long w b) = (
       b .answer ∙ fine-is n m items table slots out _ _ long w,
-      same-output b (stored _ out (book-room n m items table slots out long w)) ∙ fine-is n m items table slots out _ _ long w,
+      same-written 0 (b .bytes) (book-stored _ out (book-room n m items table slots out long w) .bytes) ∙ fine-is n m items table slots out _ _ long w,
     )
 
     pub writes-as : Each (λ x. x < 256) slots → Writes n m items table slots out r out′ → WriteAs n m items table slots out r out′

@@ -1,13 +1,14 @@
 -- The chain of tests: what it gives in each of 01's cases. Assumes nothing.
 use mathlib.Core.Path.{_≡_, refl}
 use mathlib.Core.Bool.{Bool, false}
-use mathlib.Core.List.{List, [], _∷_}
-use Prim.Native.Nat.{ℕ, suc, _*_, _<_, _≤_}
+use mathlib.Core.List.{List}
+use Prim.Native.Nat.{ℕ, _*_, _<_, _≤_}
 use native.Mathlib.Omega.{arith}
 use lib.ListN.{length, getD}
 use mir.Syntax.{w8}
 use mir.Val.{Fits}
 use Rattle.base.specs.Lists.{Each}
+use Rattle.base.proofs.Lists.{each-of}
 use Rattle.base.specs.Tests.{pick}
 use Rattle.base.specs.Compare.{less}
 use Rattle.base.proofs.Compare.{less-off}
@@ -76,5 +77,4 @@ counts-fine n m c s h =
 
 -- the elements of a slice of bytes are bytes
 pub each-byte : (s : List ℕ) → ((i : ℕ) → Fits w8 (getD s i 0)) → Each (λ x. x < 256) s
-each-byte [] h = tt
-each-byte (x ∷ s) h = (omega (arith, h 0), each-byte s (λ i. h (suc i)))
+each-byte s h = each-of (λ x. x < 256) s 0 (λ i l. omega (arith, h i))

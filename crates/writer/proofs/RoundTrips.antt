@@ -55,7 +55,7 @@ module _ {n m items : ℕ} {table slots out : List ℕ} where
       module _ (z : r .code ≡ 0) where
         -- the first bytes of the output are the book's
         pub write-bytes : take (r .length) out′ ≡ bytesOf (bookFrom n m items table slots)
-        write-bytes = let b = done-of z (writes a) .2 in ap (λ (x : Writing). take (x .length) out′) (b .answer) ∙ b .front
+        write-bytes = let b = done-of z (writes a) .2 in ap (λ (x : Writing). take (x .length) out′) (b .answer) ∙ b .bytes .front
 
         pub write-well-formed : WellFormed (take (r .length) out′)
         write-well-formed =

@@ -1,13 +1,14 @@
 -- The parts of a record, stored one after the other, are the record; the records are the book. Assumes nothing.
 use mathlib.Core.Path.{_≡_, refl, sym, ap, ap₂, _∙_}
-use mathlib.Core.List.{List, [], _∷_, _++_, map, append-assoc}
-use Prim.Native.Nat.{ℕ, _+_, _*_, _%_, _<_, _≤_}
+use mathlib.Core.List.{List, _++_, map, append-assoc}
+use Prim.Native.Nat.{ℕ, _+_, _*_, _<_, _≤_}
 use native.Mathlib.Nat.{add-zero, mul-le-mul}
 use native.Mathlib.Omega.{arith}
 use lib.ListN.{length, getD, drop}
 use lib.Seq.{sets, drop-drop, getD-drop}
 use Rattle.reversal.specs.Reversal.{Item}
 use Rattle.num.specs.Le.{bytesLe, leAt, piece}
+use Rattle.num.proofs.Le.{byte-one}
 use Rattle.num.proofs.Put.{sets-append, length-piece, piece-take}
 use Rattle.book.specs.Book.{bytesOf, frame, framed, deviceRec, moveRec, itemRec}
 use Rattle.book.specs.Buffers.{itemAt, movesFrom, itemsFrom, bookFrom}
@@ -29,10 +30,6 @@ pub then : {l : List ℕ} {at : ℕ} {xs d e : List ℕ} → Wrote l at xs d →
 then {l} {at} {xs} w p ys h q = record { is = q ∙ (ap (λ (x : List ℕ). sets x p ys) (w .is) ∙ sets-append l at p xs ys h) }
 
 -- ---- device and move
-byte-one : (v : ℕ) → v < 256 → bytesLe 1 v ≡ v ∷ []
-unfolding bytesLe
-byte-one v h = let e : v % 256 ≡ v = omega arith in rw e
-
 pub device-record : (n m : ℕ) → n < 256 → m < 256 → bytesLe 2 2 ++ bytesLe 2 1 ++ bytesLe 1 n ++ bytesLe 1 m ≡ frame (deviceRec n m)
 unfolding frame
 device-record n m h j = rw (byte-one n, byte-one m) (simp append-assoc)

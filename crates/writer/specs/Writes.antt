@@ -2,8 +2,9 @@
 use mathlib.Core.Path.{_≡_}
 use mathlib.Core.List.{List}
 use Prim.Native.Nat.{ℕ, _*_, _<_, _≤_}
-use lib.ListN.{length, getD, take, drop}
+use lib.ListN.{length, getD, drop}
 use Rattle.base.specs.Sets.{NoBitFrom}
+use Rattle.base.specs.Lists.{Written}
 use Rattle.reversal.specs.Device.{tabled}
 use Rattle.book.specs.Book.{AllowedDevice, bytesOf}
 use Rattle.book.specs.Buffers.{bookFrom, SlotFine, Writable}
@@ -55,9 +56,7 @@ written size = record { code = 0; place = 0; length = size }
 -- "it gives the book and its length. Bytes past it stay."
 pub record BookWritten (book out : List ℕ) (r : Writing) (out′ : List ℕ) : Type 0 where
   pub answer : r ≡ written (length book)
-  pub front : take (length book) out′ ≡ book
-  pub kept : (i : ℕ) → length book ≤ i → getD out′ i 0 ≡ getD out i 0
-  pub size : length out′ ≡ length out
+  pub bytes : Written book out out′
 
 -- the result r and the output out′ of writing: "Writing takes n, m, an item count, table, slots and an output buffer"
 pub data Writes (n m items : ℕ) (table slots out : List ℕ) (r : Writing) (out′ : List ℕ) : Type 0 where

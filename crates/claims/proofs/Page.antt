@@ -216,19 +216,37 @@ lookup-contract M = lookup-met
 pub looked-up : Always lookup.ended lookup-routine Lookup
 looked-up = weaker lookup.ended lookup-routine LookupContract Lookup (λ κs a r e. looked (a .0) (a .1 .0) r) lookup-contract
 
--- ---- the exported calls keep the promises of those that they pass on to
+-- ---- the exported calls, as C and Rust link them: the contract of the call that each passes on to, and what 01 says
 
-pub exported-reading : Always exported-read.ended exported-read-routine ReadContract
-exported-reading M = exported-read-met
+pub exported-read-contract : Always exported-read.ended exported-read-routine ReadContract
+exported-read-contract M = exported-read-met
 
-pub exported-checking : Always exported-check.ended exported-check-routine CheckContract
-exported-checking M = exported-check-met
+pub exported-reading : Always exported-read.ended exported-read-routine Reading
+exported-reading = weaker exported-read.ended exported-read-routine ReadContract Reading (λ κs a r e. reads) exported-read-contract
 
-pub exported-assembling : Always exported-assemble.ended exported-assemble-routine AssembleContract
-exported-assembling M = exported-assemble-met
+pub exported-check-contract : Always exported-check.ended exported-check-routine CheckContract
+exported-check-contract M = exported-check-met
 
-pub exported-writing : Always exported-write.ended exported-write-routine WriteContract
-exported-writing M = exported-write-met
+pub exported-checking : Always exported-check.ended exported-check-routine Checking
+exported-checking = weaker exported-check.ended exported-check-routine CheckContract Checking (λ κs a r e. checks) exported-check-contract
 
-pub exported-lookup : Always exported-ridge.ended exported-ridge-routine LookupContract
-exported-lookup M = exported-ridge-met
+pub exported-assemble-contract : Always exported-assemble.ended exported-assemble-routine AssembleContract
+exported-assemble-contract M = exported-assemble-met
+
+pub exported-assembling : Always exported-assemble.ended exported-assemble-routine Assembling
+exported-assembling = weaker exported-assemble.ended exported-assemble-routine AssembleContract Assembling (λ κs a r e. assembles even-bytes) exported-assemble-contract
+
+pub exported-demand-three : Always exported-assemble.ended exported-assemble-routine DemandThree
+exported-demand-three = weaker exported-assemble.ended exported-assemble-routine AssembleContract DemandThree (λ κs a r e. demand even-bytes) exported-assemble-contract
+
+pub exported-write-contract : Always exported-write.ended exported-write-routine WriteContract
+exported-write-contract M = exported-write-met
+
+pub exported-writing : Always exported-write.ended exported-write-routine Writing
+exported-writing = weaker exported-write.ended exported-write-routine WriteContract Writing (λ κs a r e. writes) exported-write-contract
+
+pub exported-ridge-contract : Always exported-ridge.ended exported-ridge-routine LookupContract
+exported-ridge-contract M = exported-ridge-met
+
+pub exported-lookup : Always exported-ridge.ended exported-ridge-routine Lookup
+exported-lookup = weaker exported-ridge.ended exported-ridge-routine LookupContract Lookup (λ κs a r e. looked (a .0) (a .1 .0) r) exported-ridge-contract

@@ -147,6 +147,7 @@ fn fill_legs(legs: &mut [Leg], w: Whole)
     }
 }
 
+// Assembling with the legs as structs: at least 32 are lent, and those past the count keep what they held.
 #[no_mangle]
 pub extern "C" fn rollback_assemble_legs(
     book: &[u8],

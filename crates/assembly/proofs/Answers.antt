@@ -15,7 +15,7 @@ use Rattle.base.proofs.Picks as picks
 use Rattle.base.proofs.Picks.{less-yes, less-no}
 use Rattle.reversal.specs.Device.{Device, tabled}
 use Rattle.reversal.specs.Runs.{AllowedRun, last}
-use Rattle.reversal.specs.Chains.{none, plan, legs}
+use Rattle.reversal.specs.Chains.{none, planOf, legsOf}
 use Rattle.reversal.specs.Answers.{Answer, assembled}
 use Rattle.reversal.specs.Computed.Least.{chosen}
 use Rattle.reversal.specs.Computed.Assembly.{rule}

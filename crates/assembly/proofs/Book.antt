@@ -13,7 +13,7 @@ use Rattle.num.proofs.Put.{piece-take}
 use Rattle.reversal.specs.Device.{Device}
 use Rattle.reversal.specs.Reversal.{Item}
 use Rattle.reversal.specs.Runs.{Run, AllowedRun, last}
-use Rattle.reversal.specs.Chains.{item, none, plan, legs}
+use Rattle.reversal.specs.Chains.{item, none, planOf, legsOf}
 use Rattle.reversal.specs.Answers.{Allowed, refused, assembled}
 use Rattle.reversal.specs.Computed.Beliefs.{belief}
 use Rattle.reversal.specs.Computed.Least.{Rule, Linked, total, leasts, leastAt, begins, chosen}
@@ -136,10 +136,10 @@ module _ (b : Book) (ok : AllowedBook b) (old : List ℕ) (long : 2176 ≤ lengt
         walks : (followed S firsts i i ≡ xs) × Steps S firsts i i
         walks = walk-chosen dev r items S k-is (sound dev items r allowed) firsts i first-is i i (omega arith) (omega arith) below
 
-        pub plan-is : planIn S (walk S firsts i) ≡ plan items xs
+        pub plan-is : planIn S (walk S firsts i) ≡ planOf items xs
         plan-is = ap (planIn S) (walks .0) ∙ plan-same dev r items S k-is (sound dev items r allowed) reverse-piece xs i (linked .0)
 
-        pub legs-are : legsIn S i (walk S firsts i) ≡ legsBytes (legs items i xs)
+        pub legs-are : legsIn S i (walk S firsts i) ≡ legsBytes (legsOf items i xs)
         legs-are = ap (legsIn S i) (walks .0) ∙ legs-same dev r items S k-is (sound dev items r allowed) xs i (linked .0)
 
         pub count-is : length (walk S firsts i) ≡ length xs

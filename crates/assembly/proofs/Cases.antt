@@ -1,30 +1,24 @@
--- The joint table of the twelve cases, of bytes: by the table of values and the reading theorem. Assumes nothing.
+-- The joint table of the twelve cases, of bytes: by the table of values, for what 01 says of assembling leaves no other answer. Assumes nothing.
 use mathlib.Core.Path.{refl, sym, subst}
-use Rattle.base.specs.Lists.{Each}
 use Rattle.reversal.specs.Device.{Device}
-use Rattle.reversal.specs.Reversal.{Accepted}
 use Rattle.reversal.specs.Runs.{Run, AllowedRun}
 use Rattle.reversal.specs.Answers.{Answer, Answers}
 use Rattle.reversal.specs.Twelve.{Q, itemsQ, Gives}
 use Rattle.reversal.proofs.Cases.{ok5, ok6, ok7, ok8, ok9, ok10, ok11, ok12, twelve}
 use Rattle.book.specs.Example.{bookQ, bytesQ}
-use Rattle.book.proofs.Example.{allowed-bookQ, bytes-bookQ, device-bookQ}
-use Rattle.checker.specs.Checks.{AcceptedBook}
+use Rattle.book.proofs.Example.{device-bookQ}
+use Rattle.reader.proofs.Cases.{bytes-Q}
+use Rattle.checker.proofs.Cases.{accepted-Q}
 use Rattle.runs.specs.RunBytes.{runBytes}
-use Rattle.assembly.specs.Assembles.{LegForm}
+use Rattle.assembly.specs.Assembles.{LegForm, inBytes, legsBytes}
 use Rattle.assembly.specs.Demand.{Given}
-use Rattle.assembly.specs.Cases.{BytesGive, Runs}
-use Rattle.assembly.proofs.Exactly.{Even}
-use Rattle.assembly.proofs.Demand.{left-at}
+use Rattle.assembly.specs.Cases.{BytesGive, Runs, LegRuns}
+use Rattle.assembly.proofs.Unique.{left-at}
 
-accepted-Q : AcceptedBook bytesQ bookQ
-accepted-Q =
-    record { allowed = allowed-bookQ; bytes = bytes-bookQ; accepted = subst (λ (d : Device). Each (Accepted d) itemsQ) (sym device-bookQ) (twelve .q1) }
-
-module _ {E : Type 0} (form : LegForm E) (even : Even form) where
+module _ {E : Type 0} (form : LegForm E) where
   give : (u : Run) (a : Answer) → AllowedRun Q u → Gives u a → BytesGive form u a
   give u a ok g =
-      record { left = λ c room long. left-at even c bookQ u room long given a (subst (λ (d : Device). Answers d itemsQ u a) (sym device-bookQ) g) }
+      record { left = λ x room long. left-at bytes-Q x room long given (subst (λ (d : Device). Answers d itemsQ u a) (sym device-bookQ) g) }
     where
       given : Given bytesQ (runBytes u) bookQ u
       given = record { accepted = accepted-Q; allowed = subst (λ (d : Device). AllowedRun d u) (sym device-bookQ) ok; run-bytes = refl }
@@ -41,3 +35,18 @@ module _ {E : Type 0} (form : LegForm E) (even : Even form) where
         q11 = give _ _ (ok11 .run) (twelve .q11);
         q12 = give _ _ (ok12 .run) (twelve .q12);
       }
+
+-- the legs of each as bytes
+pub leg-runs : LegRuns
+unfolding legsBytes
+leg-runs =
+    record {
+      q5 = record { written = λ x room long. runs inBytes .q5 .left x room long .legs-written };
+      q6 = record { written = λ x room long. runs inBytes .q6 .left x room long .legs-written };
+      q7 = record { written = λ x room long. runs inBytes .q7 .left x room long .legs-written };
+      q8 = record { written = λ x room long. runs inBytes .q8 .left x room long .legs-written };
+      q9 = record { written = λ x room long. runs inBytes .q9 .left x room long .legs-written };
+      q10 = record { written = λ x room long. runs inBytes .q10 .left x room long .legs-written };
+      q11 = record { written = λ x room long. runs inBytes .q11 .left x room long .legs-written };
+      q12 = record { written = λ x room long. runs inBytes .q12 .left x room long .legs-written };
+    }

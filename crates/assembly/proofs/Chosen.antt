@@ -10,7 +10,7 @@ use Rattle.num.specs.Le.{piece}
 use Rattle.reversal.specs.Device.{Device}
 use Rattle.reversal.specs.Reversal.{Item}
 use Rattle.reversal.specs.Runs.{Run}
-use Rattle.reversal.specs.Chains.{item, none, plan, legs}
+use Rattle.reversal.specs.Chains.{item, none, planOf, legsOf}
 use Rattle.reversal.specs.Computed.Least.{Rule, Linked, total, leastAt, begins, chosen}
 use Rattle.reversal.specs.Computed.Assembly.{fits, rule}
 use Rattle.reversal.proofs.Shortest.{chosen-linked, least-chain}
@@ -59,12 +59,12 @@ module _ (d : Device) (r : Run) (items : List Item) (slots : List ℕ) (k : (a :
 
   -- ---- what is written is the chain's
   pub plan-same : ((a : ℕ) → a < length items → piece (rAt slots a) slots (34 * a + 10) ≡ item items a .reverse)
-      → (xs : List ℕ) (j : ℕ) → Linked Q j xs → planIn slots xs ≡ plan items xs
+      → (xs : List ℕ) (j : ℕ) → Linked Q j xs → planIn slots xs ≡ planOf items xs
   unfolding planIn
   plan-same reverse [] j c = refl
   plan-same reverse (a ∷ xs) j c = ap₂ _++_ (reverse a (c .0)) (plan-same reverse xs (j - Q .k a) (c .2))
 
-  pub legs-same : (xs : List ℕ) (j : ℕ) → Linked Q j xs → legsIn slots j xs ≡ legsBytes (legs items j xs)
+  pub legs-same : (xs : List ℕ) (j : ℕ) → Linked Q j xs → legsIn slots j xs ≡ legsBytes (legsOf items j xs)
   unfolding legsIn legsBytes
   legs-same [] j c = refl
   legs-same (a ∷ xs) j c =

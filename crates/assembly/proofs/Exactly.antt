@@ -16,14 +16,14 @@ use Rattle.base.proofs.Lists.{each-at, stored}
 use Rattle.reversal.specs.Device.{Device}
 use Rattle.reversal.specs.Reversal.{Item, AllowedItem}
 use Rattle.reversal.specs.Runs.{Run, last}
-use Rattle.reversal.specs.Chains.{Leg, absent, item, lower, Chain, plan, legs, cost}
+use Rattle.reversal.specs.Chains.{Leg, absent, item, lower, Chain, planOf, legsOf, cost}
 use Rattle.reversal.specs.Answers.{Allowed, Answer, Answers, no-history, no-chain, done}
 use Rattle.reversal.proofs.Assembling.{answer-right}
 use Rattle.book.specs.Book.{Book, deviceOf}
 use Rattle.book.proofs.Device.{device-proper}
 use Rattle.reader.specs.declared.Reading.{Reading}
-use Rattle.reader.specs.Reads.{Filled}
 use Rattle.reader.specs.Reads as reads
+use Rattle.checker.specs.Checks.{Checked}
 use Rattle.checker.specs.Contract.{checkBy, CheckAs}
 use Rattle.checker.proofs.Exactly.{checks, filled}
 use Rattle.checker.proofs.Onward.{BookChecked, book-checked, checked-by, unchecked-by}
@@ -41,11 +41,11 @@ module _ (d : Device) (r : Run) (items : List Item) (each : Each (AllowedItem d)
   chain-most (a ∷ xs) j c =
       let (p, q) = chain-most xs (lower items j a) (c .2) in
       let x = each-at (AllowedItem d) items each a absent (c .0) in (
-        omega (arith, p, length-append (item items a .reverse) (plan items xs), c .1 .room, x .some, x .reverse-most),
+        omega (arith, p, length-append (item items a .reverse) (planOf items xs), c .1 .room, x .some, x .reverse-most),
         omega (arith, q, c .1 .room, x .some),
       )
 
-pub length-legs : (items : List Item) (xs : List ℕ) (j : ℕ) → length (legs items j xs) ≡ length xs
+pub length-legs : (items : List Item) (xs : List ℕ) (j : ℕ) → length (legsOf items j xs) ≡ length xs
 length-legs items [] j = refl
 length-legs items (a ∷ xs) j = omega (arith, length-legs items xs (lower items j a))
 
@@ -111,7 +111,7 @@ module _ {E : Type 0} {form : LegForm E} (even : Even form) {book run t d plan :
 
     not-accepted : (f .code ≡ 0 → ⊥) → Assembles form book run t d plan legs r t′ d′ plan′ legs′
     not-accepted n =
-        unaccepted room f (checks checked) n (result-is ∙ unchecked-by checked _ _ n)
+        unaccepted room (checks checked) n (result-is ∙ unchecked-by checked _ _ n)
         (record { plan-same = plan-is ∙ unchecked-by checked _ _ n; legs-same = legs-is ∙ unchecked-by checked _ _ n })
 
     module _ (z : f .code ≡ 0) where
@@ -121,12 +121,13 @@ module _ {E : Type 0} {form : LegForm E} (even : Even form) {book run t d plan :
       abbrev b : Book
       b = g .book
 
-      filled-is : Filled b t d t′ d′
-      filled-is = filled checked (g .long) b (g .accepted .allowed) (g .parsed)
+      checked-is : Checked book t d b t′ d′
+      checked-is =
+          record { filled = filled checked (g .long) b (g .accepted .allowed) (g .accepted .bytes) (g .parsed); accepted = g .accepted .accepted }
 
       run-faulty : runFaulty (b .n) (b .m) run ≡ true → Assembles form book run t d plan legs r t′ d′ plan′ legs′
       run-faulty e =
-          faulty room (g .long) b (g .accepted) filled-is (λ w. differ (sym e ∙ run-formed (deviceOf b) run (g .accepted .allowed .device .n-high) (c .run-bytes) .1 w))
+          faulty room b checked-is (λ w. differ (sym e ∙ run-formed (deviceOf b) run (g .accepted .allowed .device .n-high) (c .run-bytes) .1 w))
           (result-is ∙ checked-by checked _ _ g ∙ sym (picks.yes _ _ _ _ e refl))
           (record {
             plan-same = plan-is ∙ checked-by checked _ _ g ∙ sym (picks.yes _ _ _ _ e refl);
@@ -142,10 +143,14 @@ module _ {E : Type 0} {form : LegForm E} (even : Even form) {book run t d plan :
           let ok : Allowed (deviceOf b) (b .items) (runOf run) = record { device = device-proper b (g .accepted .allowed); each = g .accepted .allowed .each-item; run = allowed } in
           let right = answer-right (deviceOf b) (b .items) (runOf run) ok in
           let small = answer-small (deviceOf b) (b .items) (runOf run) ok (answerOf b run) right in
-          answered room (g .long) b (g .accepted) filled-is (runOf run) allowed bytes (answerOf b run) right
-          (result-is ∙ checked-by checked _ _ g ∙ sym (picks.no _ _ _ _ e refl))
-          (stored _ plan plan′ (omega (arith, room .0, small .plan-small)) (plan-is ∙ checked-by checked _ _ g ∙ sym (picks.no _ _ _ _ e refl)))
-          (stored _ legs legs′ (le-trans (held-small form even _ (small .legs-small)) (room .1)) (legs-is ∙ checked-by checked _ _ g ∙ sym (picks.no _ _ _ _ e refl)))
+          answered room b checked-is (runOf run) allowed bytes (answerOf b run) right
+          (record {
+            result-is = result-is ∙ checked-by checked _ _ g ∙ sym (picks.no _ _ _ _ e refl);
+            plan-written = stored _ plan plan′ (omega (arith, room .0, small .plan-small)) (plan-is ∙ checked-by checked _ _ g ∙ sym (picks.no _ _ _ _ e refl));
+            legs-written =
+                stored _ legs legs′ (le-trans (held-small form even _ (small .legs-small)) (room .1))
+                (legs-is ∙ checked-by checked _ _ g ∙ sym (picks.no _ _ _ _ e refl));
+          })
 
       on-run : (y : Bool) → runFaulty (b .n) (b .m) run ≡ y → Assembles form book run t d plan legs r t′ d′ plan′ legs′
       on-run true e = run-faulty e
@@ -163,7 +168,7 @@ module _ {E : Type 0} {form : LegForm E} (even : Even form) {book run t d plan :
     too-short : Assembles form book run t d plan legs r t′ d′ plan′ legs′
     unfolding assembleBy
     too-short =
-        short h (c .result ∙ sym (e _ _ _)) (c .table-is ∙ sym (e _ _ _)) (c .slots-is ∙ sym (e _ _ _))
+        short h (c .result ∙ sym (e _ _ _)) (record { table-same = c .table-is ∙ sym (e _ _ _); slots-same = c .slots-is ∙ sym (e _ _ _) })
         (record { plan-same = c .plan-is ∙ sym (e _ _ _); legs-same = c .legs-is ∙ sym (e _ _ _) })
 
   pub assembles : Assembles form book run t d plan legs r t′ d′ plan′ legs′

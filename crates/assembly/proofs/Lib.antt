@@ -8,5 +8,7 @@ pub mod Chosen
 pub mod Book
 pub mod Answers
 pub mod Exactly
+pub mod Unique
 pub mod Demand
+pub mod DemandUnique
 pub mod Cases

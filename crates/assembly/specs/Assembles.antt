@@ -11,8 +11,8 @@ use Rattle.reversal.specs.Chains.{Leg, none}
 use Rattle.reversal.specs.Answers.{Answer, Answers}
 use Rattle.book.specs.Book.{Book, deviceOf}
 use Rattle.reader.specs.declared.Reading.{Reading}
-use Rattle.reader.specs.Reads.{Long, Filled}
-use Rattle.checker.specs.Checks.{AcceptedBook, Checks}
+use Rattle.reader.specs.Reads.{Kept}
+use Rattle.checker.specs.Checks.{Checked, Checks}
 use Rattle.runs.specs.RunBytes.{runBytes, RunFormed}
 use Rattle.assembly.specs.declared.Assembly.{Assembly}
 
@@ -49,17 +49,25 @@ pub record Untouched {E : Type 0} (plan : List ℕ) (legs : List E) (plan′ : L
   pub plan-same : plan′ ≡ plan
   pub legs-same : legs′ ≡ legs
 
--- of a book, a run and the lent buffers at entry; the result r and the buffers at exit
-pub data Assembles {E : Type 0} (form : LegForm E) (book run t d plan : List ℕ) (legs : List E) (r : Assembly) (t′ d′ plan′ : List ℕ) (legs′ : List E) : Type 0 where
+-- the answer a as result, plan and legs: "Plan bytes and legs past those counts keep what they held."
+pub record Left {E : Type 0} (form : LegForm E) (a : Answer) (plan : List ℕ) (legs : List E) (result : Assembly) (plan′ : List ℕ) (legs′ : List E) : Type 0 where
+  pub result-is : result ≡ resultOf a
+  pub plan-written : Written (a .plan-bytes) plan plan′
+  pub legs-written : Written (form .held (a .plan-legs)) legs legs′
+
+-- of a book, a run and the lent buffers at entry; the result and the buffers at exit
+pub data Assembles {E : Type 0} (form : LegForm E) (book run table slots plan : List ℕ) (legs : List E) (result : Assembly) (table′ slots′ plan′ : List ℕ)
+    (legs′ : List E) : Type 0 where
   -- "1, 0: a lent buffer shorter than stated; all untouched"
-  short : RoomShort form plan legs → r ≡ refusal 1 0 → t′ ≡ t → d′ ≡ d → Untouched plan legs plan′ legs′ → Assembles form book run t d plan legs r t′ d′ plan′ legs′
+  short : RoomShort form plan legs → result ≡ refusal 1 0 → Kept table slots table′ slots′ → Untouched plan legs plan′ legs′
+      → Assembles form book run table slots plan legs result table′ slots′ plan′ legs′
   -- "then .. 8": what checking refuses, with its code and place, and table and slots as checking leaves them
-  unaccepted : Room form plan legs → (c : Reading) → Checks book t d c t′ d′ → (c .code ≡ 0 → ⊥) → r ≡ refusal (c .code) (c .place) → Untouched plan legs plan′ legs′
-      → Assembles form book run t d plan legs r t′ d′ plan′ legs′
+  unaccepted : Room form plan legs → {c : Reading} → Checks book table slots c table′ slots′ → (c .code ≡ 0 → ⊥) → result ≡ refusal (c .code) (c .place)
+      → Untouched plan legs plan′ legs′ → Assembles form book run table slots plan legs result table′ slots′ plan′ legs′
   -- "9, 0: run isn't exactly one record as above, or a command or mask is outside m or n; table and slots read"
-  faulty : Room form plan legs → Long t d → (b : Book) → AcceptedBook book b → Filled b t d t′ d′ → (RunFormed (deviceOf b) run → ⊥) → r ≡ refusal 9 0
-      → Untouched plan legs plan′ legs′ → Assembles form book run t d plan legs r t′ d′ plan′ legs′
+  faulty : Room form plan legs → (b : Book) → Checked book table slots b table′ slots′ → (RunFormed (deviceOf b) run → ⊥) → result ≡ refusal 9 0
+      → Untouched plan legs plan′ legs′ → Assembles form book run table slots plan legs result table′ slots′ plan′ legs′
   -- "10", "11" and "0": the answer that 01 fixes for the book's device and items and the run
-  answered : Room form plan legs → Long t d → (b : Book) → AcceptedBook book b → Filled b t d t′ d′
-      → (u : Run) → AllowedRun (deviceOf b) u → runBytes u ≡ run → (a : Answer) → Answers (deviceOf b) (b .items) u a → r ≡ resultOf a
-      → Written (a .plan-bytes) plan plan′ → Written (form .held (a .plan-legs)) legs legs′ → Assembles form book run t d plan legs r t′ d′ plan′ legs′
+  answered : Room form plan legs → (b : Book) → Checked book table slots b table′ slots′
+      → (u : Run) → AllowedRun (deviceOf b) u → runBytes u ≡ run → (a : Answer) → Answers (deviceOf b) (b .items) u a
+      → Left form a plan legs result plan′ legs′ → Assembles form book run table slots plan legs result table′ slots′ plan′ legs′

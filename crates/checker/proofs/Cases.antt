@@ -1,35 +1,47 @@
 -- Q's book as bytes: its 225 bytes are accepted, and read as the device and items of the joint table; with the item of Q2 in place of item 1 it is
 -- refused at that item's record, with the item of Q3 behind it at its end. Assumes nothing.
-use mathlib.Core.Path.{_≡_, refl, _∙_}
+use mathlib.Core.Path.{_≡_, refl, sym, subst}
+use mathlib.Core.Bool.{true}
 use mathlib.Core.List.{List, [], _∷_, _++_}
-use Prim.Native.Nat.{ℕ}
-use lib.ListN.{take, drop}
+use Prim.Native.Nat.{ℕ, _<_}
+use lib.Dec.{lit<}
+use lib.ListN.{length, take, drop}
+use Rattle.base.specs.Lists.{Each}
 use Rattle.base.specs.Tests.{pick, both, imp}
 use Rattle.base.specs.Compare.{less, atMost, same, differ}
 use Rattle.base.specs.Bounded.{all, union, seek}
 use Rattle.base.specs.Masks.{member, clearFrom}
 use Rattle.num.specs.Le.{bytesLe}
-use Rattle.reversal.specs.Twelve.{made}
+use Rattle.reversal.specs.Device.{Device}
+use Rattle.reversal.specs.Reversal.{Accepted}
+use Rattle.reversal.specs.Twelve.{made, itemsQ}
 use Rattle.reversal.specs.Computed.Sets.{after, able, reach, runsBack, ends, startOk, accepts}
-use Rattle.book.specs.Book.{Book, outcomeOf, frame, itemRec}
+use Rattle.reversal.proofs.Cases.{twelve}
+use Rattle.book.specs.Book.{Book, outcomeOf, frame, bytesOf}
 use Rattle.book.specs.Parse.{parse, cutAfter, scan, step, allBelow, moveOf, itemOf, movesIn, itemsIn}
 use Rattle.book.specs.Parse.Parsed.{Ok}
 use Rattle.book.specs.Example.{bookQ, bytesQ}
-use Rattle.book.proofs.Example.{parse-bytesQ}
-use Rattle.reader.specs.declared.Reading.{Reading}
-use Rattle.reader.specs.Reads.{refusal, done, Long}
-use Rattle.reader.proofs.Exactly.{when-fine}
-use Rattle.checker.specs.Contract.{wrongItem, judgedBy, checkBy, CheckAs}
+use Rattle.book.proofs.Fields.{all-on}
+use Rattle.book.proofs.Reading.{parse-fine}
+use Rattle.book.proofs.Example.{bytes-bookQ, allowed-bookQ, device-bookQ}
+use Rattle.reader.specs.Reads.{refusal}
+use Rattle.reader.proofs.Cases.{bytes-Q}
+use Rattle.checker.specs.Checks.{AcceptedBook, placeOf, FirstWrong}
+use Rattle.checker.specs.Cases.{Judges, QChecked}
+use Rattle.checker.specs.Contract.{wrongItem}
+use Rattle.checker.proofs.Exactly.{first-wrong}
+use Rattle.checker.proofs.Unique.{checked-fine, checked-wrong}
 
--- the answer for bytes whose book is known
-answered : {s t d : List ℕ} {r : Reading} {t′ d′ : List ℕ} → CheckAs s t d r t′ d′ → Long t d → (b : Book) → parse s ≡ Ok b → r ≡ judgedBy refusal done b
-unfolding checkBy
-answered {s} {t} {d} c l b e = c .result ∙ when-fine s t d refusal (judgedBy refusal done) l b e
+pub accepted-Q : AcceptedBook bytesQ bookQ
+accepted-Q =
+    record { allowed = allowed-bookQ; bytes = bytes-bookQ; accepted = subst (λ (d : Device). Each (Accepted d) itemsQ) (sym device-bookQ) (twelve .q1) }
 
-pub q-accepted : {t d : List ℕ} {r : Reading} {t′ d′ : List ℕ} → CheckAs bytesQ t d r t′ d′ → Long t d
-    → r ≡ record { code = 0; place = 0; n = 3; m = 3; items = 5 }
-unfolding pick both imp less same all union seek member outcomeOf after able reach runsBack ends startOk accepts wrongItem
-q-accepted c l = answered c l bookQ parse-bytesQ
+-- bytes that parse as a book whose item i is the first that the test turns down
+refused-at : (s : List ℕ) (b : Book) → allBelow 256 s ≡ true → parse s ≡ Ok b → wrongItem b < length (b .items) → Judges s (refusal 8 (placeOf b (wrongItem b)))
+refused-at s b h e l =
+    let bytes = all-on 256 s h in
+    let (a, same) = parse-fine s b bytes e in
+    record { result = λ x long. checked-wrong bytes x long a same (first-wrong b a l) .0 }
 
 -- Q's book with the item of Q2 in place of item 1, whose record stands from 129 to 153, and with the item of Q3 behind its items
 bookQ2 : Book
@@ -38,13 +50,11 @@ bookQ2 = record { n = 3; m = 3; moves = bookQ .moves; items = take 1 (bookQ .ite
 bookQ3 : Book
 bookQ3 = record { n = 3; m = 3; moves = bookQ .moves; items = bookQ .items ++ (made (2 ∷ []) (2 ∷ []) 7 7 ∷ []) }
 
-pub q2-refused : {t d : List ℕ} {r : Reading} {t′ d′ : List ℕ}
-    → CheckAs (take 129 bytesQ ++ (frame (itemRec (made (1 ∷ []) (0 ∷ []) 7 3)) ++ drop 153 bytesQ)) t d r t′ d′ → Long t d
-    → r ≡ record { code = 8; place = 129; n = 0; m = 0; items = 0 }
-unfolding pick both imp less atMost same differ all union seek member clearFrom bytesLe frame outcomeOf after able reach runsBack ends startOk accepts wrongItem parse cutAfter scan step allBelow moveOf itemOf movesIn itemsIn bookQ2
-q2-refused c l = answered c l bookQ2 refl
-
-pub q3-refused : {t d : List ℕ} {r : Reading} {t′ d′ : List ℕ} → CheckAs (bytesQ ++ frame (itemRec (made (2 ∷ []) (2 ∷ []) 7 7))) t d r t′ d′ → Long t d
-    → r ≡ record { code = 8; place = 225; n = 0; m = 0; items = 0 }
-unfolding pick both imp less atMost same differ all union seek member clearFrom bytesLe frame outcomeOf after able reach runsBack ends startOk accepts wrongItem parse cutAfter scan step allBelow moveOf itemOf movesIn itemsIn bookQ3
-q3-refused c l = answered c l bookQ3 refl
+pub q-checked : QChecked
+unfolding pick both imp less atMost same differ all union seek member clearFrom bytesLe frame outcomeOf after able reach runsBack ends startOk accepts wrongItem parse cutAfter scan step allBelow moveOf itemOf movesIn itemsIn bookQ2 bookQ3
+q-checked =
+    record {
+      q1 = record { result = λ x long. checked-fine bytes-Q x long accepted-Q .0 };
+      q2 = refused-at _ bookQ2 refl refl (lit< tt);
+      q3 = refused-at _ bookQ3 refl refl (lit< tt);
+    }

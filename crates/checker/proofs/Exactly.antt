@@ -1,5 +1,5 @@
--- The contract of checking gives what 01 says: 0 exactly where the bytes keep the rules and every item is a conditional reverse plan by
--- trajectories, 8 exactly where they keep the rules and some item is not, the first such one being at the place. Assumes nothing.
+-- The contract of checking gives what 01 says; the first item that the test turns down is the first that is no conditional reverse plan by
+-- trajectories. Assumes nothing.
 use mathlib.Core.Path.{_≡_, refl, sym, ap, _∙_, subst}
 use mathlib.Core.Bool.{Bool, true, false, not}
 use mathlib.Core.Logic.{_↔_}
@@ -22,15 +22,16 @@ use Rattle.book.specs.Lent.{TableRead, SlotsRead}
 use Rattle.book.specs.Parse.{parse}
 use Rattle.book.specs.Parse.Parsed.{Ok, Refused}
 use Rattle.book.proofs.Device.{device-proper}
-use Rattle.book.proofs.Reading.{parse-bytes, parse-fine}
+use Rattle.book.proofs.Reading.{parse-fine}
 use Rattle.book.proofs.Refused.{refused-exactly}
 use Rattle.book.proofs.Codes.{refusal-codes}
 use Rattle.book.proofs.Table.{table-read}
 use Rattle.book.proofs.Slots.{slots-read}
 use Rattle.reader.specs.declared.Reading.{Reading}
 use Rattle.reader.specs.Reads.{refusal, done, Short, Long, Kept, Filled}
+use Rattle.reader.specs.Reads as reads
 use Rattle.reader.proofs.Exactly.{Way, by-short, by-fault, by-book, way, when-short, when-faulty, when-fine}
-use Rattle.checker.specs.Checks.{AcceptedBook, placeOf, FirstWrong, Checks, short, faulty, wrong, fine}
+use Rattle.checker.specs.Checks.{placeOf, FirstWrong, Checks, unread, wrong, fine}
 use Rattle.checker.specs.Contract.{wrongItem, judgedBy, checkBy, CheckAs}
 
 -- ---- the judgement of a book, by trajectories
@@ -82,17 +83,23 @@ module _ (b : Book) (a : AllowedBook b) where
 -- ---- the call
 module _ {s t d : List ℕ} {r : Reading} {t′ d′ : List ℕ} (c : CheckAs s t d r t′ d′) where
   kept-short : Short t d → Kept t d t′ d′
-  kept-short h = record { table = c .table ∙ when-short s t d _ _ h; slots = c .slots ∙ when-short s t d _ _ h }
+  kept-short h = record { table-same = c .table ∙ when-short s t d _ _ h; slots-same = c .slots ∙ when-short s t d _ _ h }
 
   kept-faulty : Long t d → (code place : ℕ) → parse s ≡ Refused code place → Kept t d t′ d′
   kept-faulty l code place e =
-      record { table = c .table ∙ when-faulty s t d _ _ l code place e; slots = c .slots ∙ when-faulty s t d _ _ l code place e }
-
-  pub filled : Long t d → (b : Book) → AllowedBook b → parse s ≡ Ok b → Filled b t d t′ d′
-  filled l b a e =
       record {
-        table = subst (TableRead b t) (sym (c .table ∙ when-fine s t d _ _ l b e)) (table-read b t a (l .0));
-        slots = subst (SlotsRead b d) (sym (c .slots ∙ when-fine s t d _ _ l b e)) (slots-read b d a (l .1));
+        table-same = c .table ∙ when-faulty s t d _ _ l code place e;
+        slots-same = c .slots ∙ when-faulty s t d _ _ l code place e;
+      }
+
+  pub filled : Long t d → (b : Book) → AllowedBook b → bytesOf b ≡ s → parse s ≡ Ok b → Filled s t d b t′ d′
+  filled l b a same e =
+      record {
+        long = l;
+        allowed = a;
+        bytes = same;
+        table-read = subst (TableRead b t) (sym (c .table ∙ when-fine s t d _ _ l b e)) (table-read b t a (l .0));
+        slots-read = subst (SlotsRead b d) (sym (c .slots ∙ when-fine s t d _ _ l b e)) (slots-read b d a (l .1));
       }
 
   pub result-short : Short t d → r ≡ refusal 1 0
@@ -116,46 +123,18 @@ module _ {s t d : List ℕ} {r : Reading} {t′ d′ : List ℕ} (c : CheckAs s 
   pub checks : Checks s t d r t′ d′
   checks = go (way s t d)
     where
+      code-of : {x : Reading} → r ≡ x → r .code ≡ x .code
+      code-of e = ap (λ (y : Reading). y .code) e
+
       judged : Long t d → (b : Book) → parse s ≡ Ok b → AllowedBook b → bytesOf b ≡ s → Dec (wrongItem b < length (b .items)) → Checks s t d r t′ d′
-      judged l b e a same (yes h) = wrong l b a same (wrongItem b) (first-wrong b a h) (result-wrong l b e h) (filled l b a e)
+      judged l b e a same (yes h) = wrong b (filled l b a same e) (first-wrong b a h) (result-wrong l b e h)
       judged l b e a same (no h) =
-          fine l b (record { allowed = a; bytes = same; accepted = all-accepted b a (omega arith) }) (result-fine l b e (omega arith)) (filled l b a e)
+          fine b (record { filled = filled l b a same e; accepted = all-accepted b a (omega arith) }) (result-fine l b e (omega arith))
 
       go : Way s t d → Checks s t d r t′ d′
-      go (by-short h) = short h (result-short h) (kept-short h)
+      go (by-short h) = unread (reads.short h (result-short h) (kept-short h)) (λ z. omega (arith, code-of (result-short h)))
       go (by-fault l code place e) =
-          faulty l code place (refused-exactly s code place (c .bytes) .0 e) (result-faulty l code place e) (kept-faulty l code place e)
+          let f = refused-exactly s code place (c .bytes) .0 e in
+          unread (reads.faulty l f (result-faulty l code place e) (kept-faulty l code place e))
+          (λ z. omega (arith, code-of (result-faulty l code place e), refusal-codes s code place f))
       go (by-book l b e) = let (a, same) = parse-fine s b (c .bytes) e in judged l b e a same (decLt (wrongItem b) (length (b .items)))
-
-  -- ---- exactly
-  parsed : (b : Book) → AllowedBook b → bytesOf b ≡ s → parse s ≡ Ok b
-  parsed b a e = ap parse (sym e) ∙ parse-bytes b a
-
-  code-of : {x : Reading} → r ≡ x → r .code ≡ x .code
-  code-of e = ap (λ (y : Reading). y .code) e
-
-  -- "Checking answers 0 exactly when the bytes keep the rules and every item is a conditional reverse plan"
-  pub zero↔ : (r .code ≡ 0) ↔ (Long t d × ((b : Book) × AcceptedBook s b))
-  zero↔ = (λ e. forth e checks, back)
-    where
-      forth : r .code ≡ 0 → Checks s t d r t′ d′ → Long t d × ((b : Book) × AcceptedBook s b)
-      forth e (short h q k) = absurd (omega (arith, code-of q))
-      forth e (faulty l code place f q k) = absurd (omega (arith, code-of q, refusal-codes s code place f))
-      forth e (wrong l b a same i f q k) = absurd (omega (arith, code-of q))
-      forth e (fine l b a q k) = (l, (b, a))
-
-      back : Long t d × ((b : Book) × AcceptedBook s b) → r .code ≡ 0
-      back (l, (b, a)) = code-of (result-fine l b (parsed b (a .allowed) (a .bytes)) (none-wrong b (a .allowed) (a .accepted)))
-
-  -- "8 exactly when the bytes keep the rules and some item is not, the first such one being at the place"
-  pub eight↔ : (r .code ≡ 8) ↔ (Long t d × ((b : Book) × AllowedBook b × (bytesOf b ≡ s) × ((i : ℕ) × FirstWrong b i × (r .place ≡ placeOf b i))))
-  eight↔ = (λ e. forth e checks, back)
-    where
-      forth : r .code ≡ 8 → Checks s t d r t′ d′ → Long t d × ((b : Book) × AllowedBook b × (bytesOf b ≡ s) × ((i : ℕ) × FirstWrong b i × (r .place ≡ placeOf b i)))
-      forth e (short h q k) = absurd (omega (arith, code-of q))
-      forth e (faulty l code place f q k) = absurd (omega (arith, code-of q, refusal-codes s code place f))
-      forth e (wrong l b a same i f q k) = (l, (b, a, same, (i, f, ap (λ (y : Reading). y .place) q)))
-      forth e (fine l b a q k) = absurd (omega (arith, code-of q))
-
-      back : Long t d × ((b : Book) × AllowedBook b × (bytesOf b ≡ s) × ((i : ℕ) × FirstWrong b i × (r .place ≡ placeOf b i))) → r .code ≡ 8
-      back (l, (b, a, same, (i, f, p))) = code-of (result-wrong l b (parsed b a same) (omega (arith, wrong-first b a i f, f .known)))

@@ -16,7 +16,8 @@ use Rattle.reader.specs.Reads.{done, Long}
 use Rattle.reader.proofs.Exactly.{Way, by-short, by-fault, by-book, way, when-short, when-faulty, when-fine}
 use Rattle.checker.specs.Checks.{placeOf, AcceptedBook}
 use Rattle.checker.specs.Contract.{wrongItem, judgedBy, checkBy, CheckAs}
-use Rattle.checker.proofs.Exactly.{zero↔, none-wrong, result-short, result-faulty, result-wrong, result-fine}
+use Rattle.checker.proofs.Exactly.{none-wrong, result-short, result-faulty, result-wrong, result-fine, checks}
+use Rattle.checker.proofs.Unique.{zero↔}
 
 -- a book was checked, and accepted
 pub record BookChecked (s t d : List ℕ) (r : Reading) (t′ d′ : List ℕ) : Type 0 where
@@ -39,7 +40,7 @@ accepted-by s t d refuse fine l b a =
 module _ {s t d : List ℕ} {r : Reading} {t′ d′ : List ℕ} (c : CheckAs s t d r t′ d′) where
   pub book-checked : r .code ≡ 0 → BookChecked s t d r t′ d′
   book-checked e =
-      let (l, (b, a)) = zero↔ c .0 e in
+      let (l, (b, a)) = zero↔ (c .bytes) (checks c) .0 e in
       let p : parse s ≡ Ok b = ap parse (sym (a .bytes)) ∙ parse-bytes b (a .allowed) in
       record {
         book = b;

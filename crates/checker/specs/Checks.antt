@@ -8,15 +8,18 @@ use Rattle.base.specs.Lists.{Each}
 use Rattle.reversal.specs.Reversal.{Accepted}
 use Rattle.reversal.specs.Chains.{item}
 use Rattle.book.specs.Book.{Book, deviceOf, AllowedBook, bytesOf}
-use Rattle.book.specs.Refusal.{Refusal}
 use Rattle.reader.specs.declared.Reading.{Reading}
-use Rattle.reader.specs.Reads.{refusal, done, Short, Long, Kept, Filled}
+use Rattle.reader.specs.Reads.{refusal, done, Filled, Reads}
+
+-- "every item in it is accepted"
+abbrev pub AllAccepted : Book → Type 0
+AllAccepted b = Each (Accepted (deviceOf b)) (b .items)
 
 -- 01: "A book is accepted when it keeps the rules for its bytes and every item in it is accepted."
-pub record AcceptedBook (s : List ℕ) (b : Book) : Type 0 where
+pub record AcceptedBook (book : List ℕ) (b : Book) : Type 0 where
   pub allowed : AllowedBook b
-  pub bytes : bytesOf b ≡ s
-  pub accepted : Each (Accepted (deviceOf b)) (b .items)
+  pub bytes : bytesOf b ≡ book
+  pub accepted : AllAccepted b
 
 -- the offset of item i's record: what stands before it is the book with the items before it
 abbrev pub placeOf : Book → ℕ → ℕ
@@ -28,13 +31,17 @@ pub record FirstWrong (b : Book) (i : ℕ) : Type 0 where
   pub wrong : Accepted (deviceOf b) (item (b .items) i) → ⊥
   pub before : (j : ℕ) → j < i → Accepted (deviceOf b) (item (b .items) j)
 
--- of a book s, a table t and slots d at entry; the result r, the table t′ and the slots d′ at exit
-pub data Checks (s t d : List ℕ) (r : Reading) (t′ d′ : List ℕ) : Type 0 where
-  -- as reading
-  short : Short t d → r ≡ refusal 1 0 → Kept t d t′ d′ → Checks s t d r t′ d′
-  faulty : Long t d → (code place : ℕ) → Refusal s code place → r ≡ refusal code place → Kept t d t′ d′ → Checks s t d r t′ d′
+-- table and slots read from a book that is accepted
+pub record Checked (book table slots : List ℕ) (b : Book) (table′ slots′ : List ℕ) : Type 0 where
+  pub filled : Filled book table slots b table′ slots′
+  pub accepted : AllAccepted b
+
+-- of a book, a table and slots at entry; the result, the table and the slots at exit
+pub data Checks (book table slots : List ℕ) (result : Reading) (table′ slots′ : List ℕ) : Type 0 where
+  -- what reading refuses, as it does
+  unread : Reads book table slots result table′ slots′ → (result .code ≡ 0 → ⊥) → Checks book table slots result table′ slots′
   -- "8, record's offset: item not accepted; the place is that of the first wrong item; table and slots read"
-  wrong : Long t d → (b : Book) → AllowedBook b → bytesOf b ≡ s → (i : ℕ) → FirstWrong b i → r ≡ refusal 8 (placeOf b i) → Filled b t d t′ d′
-      → Checks s t d r t′ d′
+  wrong : (b : Book) → Filled book table slots b table′ slots′ → {i : ℕ} → FirstWrong b i → result ≡ refusal 8 (placeOf b i)
+      → Checks book table slots result table′ slots′
   -- "0, 0: done"
-  fine : Long t d → (b : Book) → AcceptedBook s b → r ≡ done b → Filled b t d t′ d′ → Checks s t d r t′ d′
+  fine : (b : Book) → Checked book table slots b table′ slots′ → result ≡ done b → Checks book table slots result table′ slots′

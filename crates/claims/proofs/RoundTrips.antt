@@ -1,54 +1,86 @@
--- The round trips, from the contracts of reading and writing. Assumes nothing.
-use mathlib.Core.Path.{_≡_, refl, sym, ap, _∙_, subst}
+-- The round trips, from what 01 says of reading and writing. Assumes nothing.
+use mathlib.Core.Path.{_≡_, refl, sym, ap, ap₂, _∙_, subst}
 use mathlib.Core.List.{List}
-use Prim.Native.Nat.{ℕ, _*_, _≤_}
+use Prim.Native.Nat.{ℕ, _*_, _<_, _≤_}
+use native.Mathlib.Omega.{arith}
 use lib.ListN.{length, getD, take}
-use Rattle.book.specs.Book.{Book}
-use Rattle.book.specs.Parse.{parse}
-use Rattle.book.specs.Parse.Parsed.{Ok}
-use Rattle.book.specs.Buffers.{tableOf, slotsOf, bookFrom}
-use Rattle.book.proofs.Items.{length-items-from}
+use Rattle.base.specs.Lists.{Bytes}
+use Rattle.book.specs.Book.{Book, deviceOf, AllowedBook, bytesOf}
+use Rattle.book.specs.Lent.{slotsBytes, Holds}
+use Rattle.book.proofs.Codes.{refusal-codes}
+use Rattle.book.proofs.Slots.{length-slots}
+use Rattle.book.proofs.Unique.{same-entry, one-book, not-refused}
+use Rattle.book.proofs.RoundTrip.{read-holds}
 use Rattle.reader.specs.declared.Reading.{Reading}
-use Rattle.reader.specs.Reads.{refusal, done, Long}
-use Rattle.reader.specs.Contract.{ReadAs}
-use Rattle.reader.proofs.Exactly.{BookRead, book-read, when-fine}
+use Rattle.reader.specs.Reads.{done, Long, Filled, Reads, short, faulty, fine}
+use Rattle.reader.proofs.Unique.{not-both}
 use Rattle.writer.specs.declared.Writing.{Writing}
-use Rattle.writer.specs.Writes.{BookWritten}
-use Rattle.writer.specs.Contract.{WriteAs}
-use Rattle.writer.proofs.RoundTrips.{write-read, same-entries, same-slots, read-write-again}
-use Rattle.claims.specs.Claims.{GivenBack}
+use Rattle.writer.specs.Writes.{BookWritten, Writes}
+use Rattle.writer.proofs.Answers.{held-written}
+use Rattle.writer.proofs.RoundTrips.{done-of, book-bytes}
+use Rattle.claims.specs.Claims.{GivenBack, ReadBack, WriteBack}
 
-pub write-back : {n m items : ℕ} {table slots out : List ℕ} {w : Writing} {out′ : List ℕ} → WriteAs n m items table slots out w out′
-    → (bytes t s : List ℕ) → ReadAs bytes t s (record { code = 0; place = 0; n = n; m = m; items = items }) table slots → 31110 ≤ length out
-    → BookWritten bytes out w out′
-write-back {n} {m} {items} {table} {slots} {out} {w} {out′} a bytes t s c l =
-    read-write-again bytes (g .book) t s (c .bytes) (g .parsed) (record { table-size = g .long .0; slots-size = g .long .1; out-size = l }) same
+pub write-back : {n m items : ℕ} {table slots out : List ℕ} {r : Writing} {out′ : List ℕ} → Bytes slots → Writes n m items table slots out r out′
+    → WriteBack n m items table slots out r out′
+write-back {n} {m} {items} {table} {slots} {out} {r} {out′} h x book t s reads room = go reads
   where
-    g : BookRead bytes t s (record { code = 0; place = 0; n = n; m = m; items = items }) table slots
-    g = book-read c refl
+    abbrev read : Reading
+    read = record { code = 0; place = 0; n = n; m = m; items = items }
 
-    same : WriteAs (g .book .n) (g .book .m) (length (g .book .items)) (tableOf (g .book) t) (slotsOf (g .book) s) out w out′
-    same =
-        subst (λ (x : Reading). WriteAs (x .n) (x .m) (x .items) (tableOf (g .book) t) (slotsOf (g .book) s) out w out′) (g .result)
-        (rw (sym (g .table)) (rw (sym (g .slots)) a))
+    code-of : {y : Reading} → read ≡ y → 0 ≡ y .code
+    code-of e = ap (λ (y : Reading). y .code) e
 
-pub read-back : {book table slots : List ℕ} {r : Reading} {table′ slots′ : List ℕ} → ReadAs book table slots r table′ slots′
-    → (n m items : ℕ) (t s out : List ℕ) (w : Writing) (out′ : List ℕ) → WriteAs n m items t s out w out′ → w .code ≡ 0
-    → book ≡ take (w .length) out′ → Long table slots → GivenBack n m items t s r table′ slots′
-read-back {book} {table} {slots} {r} {table′} {slots′} c n m items t s out w out′ a z e l =
-    record {
-      result = result;
-      entries = λ i h. ap (λ (x : List ℕ). getD x i 0) (c .table ∙ when-fine book table slots _ _ l b parsed) ∙ same-entries a z table i (l .0) h;
-      slots-same = ap (take (34 * items)) (c .slots ∙ when-fine book table slots _ _ l b parsed) ∙ same-slots a z slots (l .1);
-    }
+    go : Reads book t s read table slots → BookWritten book out r out′
+    go (short a e k) = absurd (omega (arith, code-of e))
+    go (faulty l f e k) = absurd (omega (arith, code-of e, refusal-codes book _ _ f))
+    go (fine b f e) =
+        let holds : Holds n m items table slots b
+        = subst (λ (y : Reading). Holds (y .n) (y .m) (y .items) table slots b) (sym e) (read-holds (f .table-read) (f .slots-read)) in
+        let long = record {
+          table-size = omega (arith, f .table-read .size, f .long .0);
+          slots-size = omega (arith, f .slots-read .size, f .long .1);
+          out-size = room;
+        } in
+        subst (λ (y : List ℕ). BookWritten y out r out′) (f .bytes) (held-written h x long (f .allowed) holds)
+
+pub read-back : {book table slots : List ℕ} {r : Reading} {table′ slots′ : List ℕ} → Bytes book → Reads book table slots r table′ slots′
+    → ReadBack book table slots r table′ slots′
+read-back {book} {table} {slots} {r} {table′} {slots′} h reads n m items t s out w out′ x z e l = go reads
   where
-    b : Book
-    b = bookFrom n m items t s
+    abbrev b : Book
+    b = done-of z x .1 .0
 
-    parsed : parse book ≡ Ok b
-    parsed = ap parse e ∙ write-read a z
+    allowed : AllowedBook b
+    allowed = done-of z x .1 .1
 
-    result : r ≡ record { code = 0; place = 0; n = n; m = m; items = items }
-    result =
-        c .result ∙ when-fine book table slots refusal done l b parsed
-        ∙ ap (λ (k : ℕ). record { code = 0; place = 0; n = n; m = m; items = k }) (length-items-from items s)
+    holds : Holds n m items t s b
+    holds = done-of z x .1 .2
+
+    same : bytesOf b ≡ book
+    same = sym (e ∙ book-bytes (done-of z x .1 .3))
+
+    size : length (slotsBytes (b .items)) ≡ 34 * items
+    size = length-slots (deviceOf b) (b .items) (allowed .each-item) ∙ ap (λ (k : ℕ). 34 * k) (holds .count)
+
+    back : r ≡ done b → Filled book table slots b table′ slots′ → GivenBack n m items t s r table′ slots′
+    back q f =
+        record {
+          result =
+              q
+              ∙ (ap₂ (λ (i j : ℕ). record { code = 0; place = 0; n = i; m = j; items = length (b .items) }) (holds .states) (holds .commands)
+              ∙ ap (λ (k : ℕ). record { code = 0; place = 0; n = n; m = m; items = k }) (holds .count));
+          entries =
+              λ i k.
+              same-entry b allowed (f .table-read) (holds .entries) i
+              (subst (λ (c : ℕ). i < c) (ap₂ (λ (i j : ℕ). i * j) (sym (holds .states)) (sym (holds .commands))) k);
+          slots-same =
+              ap (λ (k : ℕ). take k slots′) (sym size)
+              ∙ (f .slots-read .front ∙ (sym (holds .slots-are .front) ∙ ap (λ (k : ℕ). take k s) size));
+        }
+
+    go : Reads book table slots r table′ slots′ → GivenBack n m items t s r table′ slots′
+    go (short a q k) = absurd (not-both table slots a l)
+    go (faulty _ f q k) = absurd (not-refused book h f b allowed same)
+    go (fine b′ f q) =
+        let y : b′ ≡ b = one-book b′ b (f .allowed) allowed (f .bytes ∙ sym same) in
+        back (q ∙ ap done y) (subst (λ (v : Book). Filled book table slots v table′ slots′) y f)

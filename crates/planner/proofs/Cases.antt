@@ -3,15 +3,14 @@ use Rattle.assembly.specs.Cases.{Runs}
 use Rattle.assembly.proofs.Cases.{runs}
 use Rattle.planner.specs.Structs.{inStructs}
 use Rattle.planner.specs.Cases.{StructRuns}
-use Rattle.planner.proofs.Structs.{even-structs}
 
 all : Runs inStructs
-all = runs inStructs even-structs
+all = runs inStructs
 
 pub struct-runs : StructRuns
 struct-runs =
     record {
-      q5 = record { written = λ c room long. all .q5 .left c room long .legs-written };
-      q6 = record { written = λ c room long. all .q6 .left c room long .legs-written };
-      q8 = record { written = λ c room long. all .q8 .left c room long .legs-written };
+      q5 = record { written = λ x room long. all .q5 .left x room long .legs-written };
+      q6 = record { written = λ x room long. all .q6 .left x room long .legs-written };
+      q8 = record { written = λ x room long. all .q8 .left x room long .legs-written };
     }

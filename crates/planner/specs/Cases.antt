@@ -1,4 +1,4 @@
--- 01's runs Q5, Q6 and Q8 on Q with leg structs, for the reader. Assumes nothing: these are definitions.
+-- 01's runs Q5, Q6 and Q8 on Q with leg structs, as literals. Assumes nothing: these are definitions.
 use mathlib.Core.List.{List, [], _∷_}
 use Prim.Native.Nat.{ℕ}
 use Rattle.base.specs.Lists.{Written}
@@ -8,8 +8,7 @@ use Rattle.book.specs.Example.{bytesQ}
 use Rattle.reader.specs.Reads.{Long}
 use Rattle.runs.specs.RunBytes.{runBytes}
 use Rattle.assembly.specs.declared.Assembly.{Assembly}
-use Rattle.assembly.specs.Assembles.{Room}
-use Rattle.assembly.specs.Contract.{AssembleAs}
+use Rattle.assembly.specs.Assembles.{Room, Assembles}
 use Rattle.planner.specs.declared.Leg.{Leg}
 use Rattle.planner.specs.Structs.{inStructs}
 
@@ -18,8 +17,9 @@ leg item upper lower = record { item = item; upper = upper; lower = lower }
 
 -- in buffers that are long enough: the structs written, and all others kept
 pub record StructsGiven (u : Run) (ls : List Leg) : Type 0 where
-  pub written : {t d plan : List ℕ} {legs : List Leg} {r : Assembly} {t′ d′ plan′ : List ℕ} {legs′ : List Leg}
-      → AssembleAs inStructs bytesQ (runBytes u) t d plan legs r t′ d′ plan′ legs′ → Room inStructs plan legs → Long t d → Written ls legs legs′
+  pub written : {table slots plan : List ℕ} {legs : List Leg} {r : Assembly} {table′ slots′ plan′ : List ℕ} {legs′ : List Leg}
+      → Assembles inStructs bytesQ (runBytes u) table slots plan legs r table′ slots′ plan′ legs′ → Room inStructs plan legs → Long table slots
+      → Written ls legs legs′
 
 pub record StructRuns : Type 0 where
   pub q5 : StructsGiven (run (2 ∷ 1 ∷ []) (7 ∷ 7 ∷ 7 ∷ [])) (leg 2 2 0 ∷ [])

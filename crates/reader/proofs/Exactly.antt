@@ -1,17 +1,17 @@
--- The contract of reading gives what 01 says, of books and records; it answers 0 exactly on well-formed books. Assumes nothing.
+-- The contract of reading gives what 01 says, of books and records. Assumes nothing.
 use mathlib.Core.Path.{_≡_, refl, sym, ap, _∙_, subst}
-use mathlib.Core.Logic.{inl, inr, _↔_}
+use mathlib.Core.Logic.{inl, inr}
 use mathlib.Core.List.{List}
 use Prim.Native.Nat.{ℕ, _<_}
 use native.Mathlib.Omega.{arith}
 use native.Mathlib.Decide.{decLt}
 use lib.ListN.{length}
-use Rattle.book.specs.Book.{Book, AllowedBook, bytesOf, WellFormed}
+use Rattle.book.specs.Book.{Book, AllowedBook, bytesOf}
 use Rattle.book.specs.Lent.{TableRead, SlotsRead}
 use Rattle.book.specs.Parse.{Parsed, parse}
 use Rattle.book.specs.Parse.Parsed.{Ok, Refused}
 use Rattle.book.specs.Buffers.{tableOf, slotsOf}
-use Rattle.book.proofs.Reading.{parse-bytes, parse-fine}
+use Rattle.book.proofs.Reading.{parse-fine}
 use Rattle.book.proofs.Refused.{refused-exactly}
 use Rattle.book.proofs.Codes.{refusal-codes}
 use Rattle.book.proofs.Table.{table-read}
@@ -99,32 +99,26 @@ module _ {s t d : List ℕ} {r : Reading} {t′ d′ : List ℕ} (c : ReadAs s t
       go (by-fault l code place e) = when-faulty s t d refuse f l code place e ∙ sym (when-faulty s t d refuse g l code place e)
       go (by-book l b e) = absurd (n (ap (λ (x : Reading). x .code) (c .result ∙ when-fine s t d refusal done l b e)))
 
-module _ {s t d : List ℕ} {r : Reading} {t′ d′ : List ℕ} (c : ReadAs s t d r t′ d′) where
-  pub reads : Reads s t d r t′ d′
-  reads = go (way s t d)
-    where
-      go : Way s t d → Reads s t d r t′ d′
-      go (by-short h) =
-          short h (c .result ∙ when-short s t d refusal done h)
-          (record { table = c .table ∙ when-short s t d _ _ h; slots = c .slots ∙ when-short s t d _ _ h })
-      go (by-fault l code place e) =
-          faulty l code place (refused-exactly s code place (c .bytes) .0 e) (c .result ∙ when-faulty s t d refusal done l code place e)
-          (record { table = c .table ∙ when-faulty s t d _ _ l code place e; slots = c .slots ∙ when-faulty s t d _ _ l code place e })
-      go (by-book l b e) =
-          let (a, same) = parse-fine s b (c .bytes) e in
-          fine l b a same (c .result ∙ when-fine s t d refusal done l b e)
-          (record {
-            table = subst (TableRead b t) (sym (c .table ∙ when-fine s t d _ _ l b e)) (table-read b t a (l .0));
-            slots = subst (SlotsRead b d) (sym (c .slots ∙ when-fine s t d _ _ l b e)) (slots-read b d a (l .1));
-          })
-
-  -- code 0 exactly where the buffers are long enough and the bytes are those of some allowed book
-  pub zero↔ : (r .code ≡ 0) ↔ (Long t d × WellFormed s)
-  zero↔ = (forth, back)
-    where
-      forth : r .code ≡ 0 → Long t d × WellFormed s
-      forth e = let g = book-read c e in (g .long, (g .book, g .allowed, g .bytes))
-
-      back : Long t d × WellFormed s → r .code ≡ 0
-      back (l, (b, a, e)) =
-          ap (λ (x : Reading). x .code) (c .result ∙ when-fine s t d refusal done l b (ap parse (sym e) ∙ parse-bytes b a))
+-- ---- what 01 says
+pub reads : {s t d : List ℕ} {r : Reading} {t′ d′ : List ℕ} → ReadAs s t d r t′ d′ → Reads s t d r t′ d′
+reads {s} {t} {d} {r} {t′} {d′} c = go (way s t d)
+  where
+    go : Way s t d → Reads s t d r t′ d′
+    go (by-short h) =
+        short h (c .result ∙ when-short s t d refusal done h)
+        (record { table-same = c .table ∙ when-short s t d _ _ h; slots-same = c .slots ∙ when-short s t d _ _ h })
+    go (by-fault l code place e) =
+        faulty l (refused-exactly s code place (c .bytes) .0 e) (c .result ∙ when-faulty s t d refusal done l code place e)
+        (record {
+          table-same = c .table ∙ when-faulty s t d _ _ l code place e;
+          slots-same = c .slots ∙ when-faulty s t d _ _ l code place e;
+        })
+    go (by-book l b e) =
+        let (a, same) = parse-fine s b (c .bytes) e in
+        fine b (record {
+          long = l;
+          allowed = a;
+          bytes = same;
+          table-read = subst (TableRead b t) (sym (c .table ∙ when-fine s t d _ _ l b e)) (table-read b t a (l .0));
+          slots-read = subst (SlotsRead b d) (sym (c .slots ∙ when-fine s t d _ _ l b e)) (slots-read b d a (l .1));
+        }) (c .result ∙ when-fine s t d refusal done l b e)

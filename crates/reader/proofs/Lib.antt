@@ -5,3 +5,5 @@ pub mod Going
 pub mod Filling
 pub mod Answers
 pub mod Exactly
+pub mod Unique
+pub mod Cases

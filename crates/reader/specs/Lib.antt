@@ -3,3 +3,4 @@ pub mod Turns
 pub mod Filling
 pub mod Reads
 pub mod Contract
+pub mod Cases

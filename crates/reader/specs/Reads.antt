@@ -19,26 +19,30 @@ done b = record { code = 0; place = 0; n = b .n; m = b .m; items = length (b .it
 
 -- "a table (2,048 entries of 64 bits ..) and slots (64 of 34 bytes ..)"
 abbrev pub Short : List ℕ → List ℕ → Type 0
-Short t d = (length t < 2048) ⊎ (length d < 2176)
+Short table slots = (length table < 2048) ⊎ (length slots < 2176)
 
 abbrev pub Long : List ℕ → List ℕ → Type 0
-Long t d = (2048 ≤ length t) × (2176 ≤ length d)
+Long table slots = (2048 ≤ length table) × (2176 ≤ length slots)
 
 -- all untouched
-pub record Kept (t d t′ d′ : List ℕ) : Type 0 where
-  pub table : t′ ≡ t
-  pub slots : d′ ≡ d
+pub record Kept (table slots table′ slots′ : List ℕ) : Type 0 where
+  pub table-same : table′ ≡ table
+  pub slots-same : slots′ ≡ slots
 
--- table and slots read
-pub record Filled (b : Book) (t d t′ d′ : List ℕ) : Type 0 where
-  pub table : TableRead b t t′
-  pub slots : SlotsRead b d d′
+-- table and slots read: b is the book in the bytes, and they hold it
+pub record Filled (book table slots : List ℕ) (b : Book) (table′ slots′ : List ℕ) : Type 0 where
+  pub long : Long table slots
+  pub allowed : AllowedBook b
+  pub bytes : bytesOf b ≡ book
+  pub table-read : TableRead b table table′
+  pub slots-read : SlotsRead b slots slots′
 
--- of a book s, a table t and slots d at entry; the result r, the table t′ and the slots d′ at exit
-pub data Reads (s t d : List ℕ) (r : Reading) (t′ d′ : List ℕ) : Type 0 where
+-- of a book, a table and slots at entry; the result, the table and the slots at exit
+pub data Reads (book table slots : List ℕ) (result : Reading) (table′ slots′ : List ℕ) : Type 0 where
   -- "1, 0: a lent buffer shorter than stated; all untouched"
-  short : Short t d → r ≡ refusal 1 0 → Kept t d t′ d′ → Reads s t d r t′ d′
+  short : Short table slots → result ≡ refusal 1 0 → Kept table slots table′ slots′ → Reads book table slots result table′ slots′
   -- "then record by record 2, 3, 7, 4, 5, 6, the first faulty record deciding"; "untouched"
-  faulty : Long t d → (code place : ℕ) → Refusal s code place → r ≡ refusal code place → Kept t d t′ d′ → Reads s t d r t′ d′
+  faulty : Long table slots → {code place : ℕ} → Refusal book code place → result ≡ refusal code place → Kept table slots table′ slots′
+      → Reads book table slots result table′ slots′
   -- "0, 0: done"
-  fine : Long t d → (b : Book) → AllowedBook b → bytesOf b ≡ s → r ≡ done b → Filled b t d t′ d′ → Reads s t d r t′ d′
+  fine : (b : Book) → Filled book table slots b table′ slots′ → result ≡ done b → Reads book table slots result table′ slots′

@@ -6,3 +6,4 @@ pub mod Lowest
 pub mod Chain
 pub mod Answers
 pub mod RoundTrips
+pub mod Cases

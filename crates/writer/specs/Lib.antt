@@ -2,3 +2,4 @@ pub mod Writes
 pub mod Records
 pub mod Checks
 pub mod Contract
+pub mod Cases

@@ -2,12 +2,12 @@
 use mathlib.Core.Path.{_≡_}
 use mathlib.Core.List.{List}
 use Prim.Native.Nat.{ℕ, _*_, _<_, _≤_}
-use lib.ListN.{length, getD, drop}
+use lib.ListN.{length, getD}
 use Rattle.base.specs.Sets.{NoBitFrom}
 use Rattle.base.specs.Lists.{Written}
 use Rattle.reversal.specs.Device.{tabled}
-use Rattle.book.specs.Book.{AllowedDevice, bytesOf}
-use Rattle.book.specs.Buffers.{bookFrom, SlotFine, Writable}
+use Rattle.book.specs.Book.{Book, AllowedDevice, AllowedBook, bytesOf}
+use Rattle.book.specs.Lent.{SlotAllowed, Holds}
 use Rattle.writer.specs.declared.Writing.{Writing}
 
 -- "a table (2,048 entries of 64 bits ..) and slots (64 of 34 bytes ..)", "an output buffer of at least 31,110 bytes"
@@ -28,7 +28,7 @@ EntryRight n table i = NoBitFrom n (getD table i 0)
 
 -- the slot i keeps an item's limits, and its unused command bytes are zero. "It doesn't judge items."
 abbrev pub SlotRight : ℕ → ℕ → List ℕ → List ℕ → ℕ → Type 0
-SlotRight n m table slots i = SlotFine (tabled n m table) (drop (34 * i) slots)
+SlotRight n m table slots i = SlotAllowed (tabled n m table) slots i
 
 -- "It refuses .. in this order": each case says that none before it holds. "Entries from n × m on and slots past the count are ignored."
 pub data Refuses (n m items : ℕ) (table slots out : List ℕ) : ℕ → ℕ → Type 0 where
@@ -58,9 +58,10 @@ pub record BookWritten (book out : List ℕ) (r : Writing) (out′ : List ℕ) :
   pub answer : r ≡ written (length book)
   pub bytes : Written book out out′
 
--- the result r and the output out′ of writing: "Writing takes n, m, an item count, table, slots and an output buffer"
+-- the result r and the output out′ of writing: "Writing takes n, m, an item count, table, slots and an output buffer". What it writes is the allowed
+-- book that they hold.
 pub data Writes (n m items : ℕ) (table slots out : List ℕ) (r : Writing) (out′ : List ℕ) : Type 0 where
   refused : {code place : ℕ} → Refuses n m items table slots out code place → r ≡ refusal code place → out′ ≡ out
       → Writes n m items table slots out r out′
-  done : LongEnough table slots out → Writable n m items table slots → BookWritten (bytesOf (bookFrom n m items table slots)) out r out′
+  done : LongEnough table slots out → (b : Book) → AllowedBook b → Holds n m items table slots b → BookWritten (bytesOf b) out r out′
       → Writes n m items table slots out r out′

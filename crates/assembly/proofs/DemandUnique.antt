@@ -1,0 +1,99 @@
+-- Demand 3 alone fixes the answer where no refusal before it is due and some history fits: which of 0 and 11, the 33 numbers, and on 0 both counts,
+-- the plan and the legs. Assumes nothing.
+use mathlib.Core.Path.{_≡_, refl, sym, ap, _∙_, subst}
+use mathlib.Core.Logic.{_⊎_, inl, inr}
+use mathlib.Core.List.{List}
+use Prim.Native.Nat.{ℕ, _*_}
+use native.Mathlib.Omega.{arith}
+use lib.ListN.{length, take}
+use Rattle.reversal.specs.Runs.{Run, AllowedRun, last}
+use Rattle.reversal.specs.Chains.{planOf, legsOf, cost, Best, Chain}
+use Rattle.reversal.specs.Answers.{Allowed, Answer, Answers, no-history, no-chain, done, Numbers}
+use Rattle.reversal.specs.Computed.Assembly.{answer}
+use Rattle.reversal.proofs.Assembling.{answer-right, best-unique, numbers-unique}
+use Rattle.book.specs.Book.{Book, deviceOf}
+use Rattle.book.proofs.Device.{device-proper}
+use Rattle.book.proofs.Unique.{one-book}
+use Rattle.runs.proofs.Formed.{one-run}
+use Rattle.assembly.specs.declared.Assembly.{Assembly}
+use Rattle.assembly.specs.Assembles.{LegForm}
+use Rattle.assembly.specs.Demand.{Given, Ready, Planned, Demand}
+
+-- the bytes have one book and one run
+same-given : {book run : List ℕ} {b b′ : Book} {u u′ : Run} → Given book run b u → Given book run b′ u′ → (b ≡ b′) × (u ≡ u′)
+same-given {b = b} {b′ = b′} {u = u} {u′ = u′} g g′ =
+    let x : b ≡ b′ = one-book b b′ (g .accepted .allowed) (g′ .accepted .allowed) (g .accepted .bytes ∙ sym (g′ .accepted .bytes)) in
+    let al : AllowedRun (deviceOf b′) u = subst (λ (y : Book). AllowedRun (deviceOf y) u) x (g .allowed) in
+    (x, one-run (deviceOf b′) (g′ .accepted .allowed .device .n-high) al (g′ .allowed) (g .run-bytes ∙ sym (g′ .run-bytes)))
+
+-- the chain of a plan is the best one
+best : {E : Type 0} {form : LegForm E} {b : Book} {u : Run} {r : Assembly} {p : List ℕ} {l : List E} → (a : Planned form b u r p l)
+    → Best (deviceOf b) u (b .items) (a .items)
+best a =
+    record {
+      chain = a .chain;
+      fewest = λ ys k. omega (arith, a .commands-counted, a .fewest-commands ys k);
+      lowest = λ ys k e. a .lowest ys k (e ∙ sym (a .commands-counted));
+    }
+
+-- counts, plan and legs
+abbrev pub SamePlan : {E : Type 0} → LegForm E → Assembly → Assembly → List ℕ → List ℕ → List E → List E → Type 0
+SamePlan form r q p p′ l l′ =
+    (r .commands ≡ q .commands) × (r .legs ≡ q .legs) × (take (r .commands) p ≡ take (q .commands) p′)
+    × (take (form .width * r .legs) l ≡ take (form .width * q .legs) l′)
+
+planned-unique : {E : Type 0} (form : LegForm E) (b : Book) (u : Run) {r q : Assembly} {p p′ : List ℕ} {l l′ : List E} → Planned form b u r p l
+    → Planned form b u q p′ l′ → SamePlan form r q p p′ l l′
+planned-unique form b u a c =
+    let same : a .items ≡ c .items = best-unique (deviceOf b) (b .items) u (a .items) (c .items) (best a) (best c) in (
+      a .commands-counted ∙ (ap (cost (b .items)) same ∙ sym (c .commands-counted)),
+      a .legs-counted ∙ (ap length same ∙ sym (c .legs-counted)),
+      a .plan-written ∙ (ap (planOf (b .items)) same ∙ sym (c .plan-written)),
+      a .legs-written ∙ (ap (λ (xs : List ℕ). form .held (legsOf (b .items) (last u) xs)) same ∙ sym (c .legs-written)),
+    )
+
+module _ {E : Type 0} (form : LegForm E) {book run table slots plan : List ℕ} {legs : List E} {b : Book} {u : Run}
+    (ready : Ready form book run table slots plan legs b u) where
+  abbrev Is : Assembly → List ℕ → List E → Type 0
+  Is r p l = Demand form book run table slots plan legs r p l
+
+  module _ {r : Assembly} {p : List ℕ} {l : List E} (x : Is r p l) where
+    planned : r .code ≡ 0 → Planned form b u r p l
+    planned z =
+        let (b′, (u′, g, a)) = x .plan-given z in
+        let (e, f) = same-given g (ready .given) in
+        subst (λ (v : Run). Planned form b v r p l) f (subst (λ (y : Book). Planned form y u′ r p l) e a)
+
+    numbers-are : (r .code ≡ 0) ⊎ (r .code ≡ 11) → Numbers (deviceOf b) u (b .items) (r .fewest)
+    numbers-are z =
+        let (b′, (u′, g, a)) = x .numbers z in
+        let (e, f) = same-given g (ready .given) in
+        subst (λ (v : Run). Numbers (deviceOf b) v (b .items) (r .fewest)) f
+        (subst (λ (y : Book). Numbers (deviceOf y) u′ (y .items) (r .fewest)) e a)
+
+  ok : Allowed (deviceOf b) (b .items) u
+  ok =
+      record {
+        device = device-proper b (ready .given .accepted .allowed);
+        each = ready .given .accepted .allowed .each-item;
+        run = ready .given .allowed;
+      }
+
+  pub demand-unique : {r q : Assembly} {p p′ : List ℕ} {l l′ : List E} → Is r p l → Is q p′ l′
+      → (r .code ≡ q .code) × (r .fewest ≡ q .fewest) × (r .code ≡ 0 → SamePlan form r q p p′ l l′)
+  demand-unique {r} {q} {p} {p′} {l} {l′} x y = go (answer-right (deviceOf b) (b .items) u ok)
+    where
+      both : (k : ℕ) → r .code ≡ k → q .code ≡ k → (k ≡ 0) ⊎ (k ≡ 11)
+          → (r .code ≡ q .code) × (r .fewest ≡ q .fewest) × (r .code ≡ 0 → SamePlan form r q p p′ l l′)
+      both k e f z = (
+        e ∙ sym f,
+        numbers-unique (deviceOf b) (b .items) u (r .fewest) (q .fewest) (numbers-are x (subst (λ (c : ℕ). (c ≡ 0) ⊎ (c ≡ 11)) (sym e) z))
+        (numbers-are y (subst (λ (c : ℕ). (c ≡ 0) ⊎ (c ≡ 11)) (sym f) z)),
+        λ w. planned-unique form b u (planned x w) (planned y (f ∙ (sym e ∙ w))),
+      )
+
+      go : {a : Answer} → Answers (deviceOf b) (b .items) u a
+          → (r .code ≡ q .code) × (r .fewest ≡ q .fewest) × (r .code ≡ 0 → SamePlan form r q p p′ l l′)
+      go (no-history n e) = absurd (n (ready .path) (ready .history))
+      go (no-chain h v n ns m e) = both 11 (x .no-chain .1 (b, (u, ready, n))) (y .no-chain .1 (b, (u, ready, n))) (inr refl)
+      go (done h v xs c ns m e) = both 0 (x .gives-plan b u ready xs (c .chain)) (y .gives-plan b u ready xs (c .chain)) (inl refl)

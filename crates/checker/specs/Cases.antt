@@ -1,0 +1,25 @@
+-- Q's book checked, as bytes, with literal numbers: accepted; with the item of Q2 in place of item 1; with the item of Q3 behind its items.
+-- Assumes nothing: these are definitions.
+use mathlib.Core.Path.{_≡_}
+use mathlib.Core.List.{List, [], _∷_, _++_}
+use Prim.Native.Nat.{ℕ}
+use lib.ListN.{take, drop}
+use Rattle.reversal.specs.Twelve.{made}
+use Rattle.book.specs.Book.{frame, itemRec}
+use Rattle.book.specs.Example.{bytesQ}
+use Rattle.reader.specs.declared.Reading.{Reading}
+use Rattle.reader.specs.Reads.{Long}
+use Rattle.checker.specs.Checks.{Checks}
+
+-- in buffers that are long enough, checking these bytes answers this
+pub record Judges (book : List ℕ) (answer : Reading) : Type 0 where
+  pub result : {table slots : List ℕ} {r : Reading} {table′ slots′ : List ℕ} → Checks book table slots r table′ slots′ → Long table slots → r ≡ answer
+
+pub record QChecked : Type 0 where
+  -- "Q1 all five items are accepted."
+  pub q1 : Judges bytesQ (record { code = 0; place = 0; n = 3; m = 3; items = 5 })
+  -- "Q2 item 1 with psi 3 isn't.": its record stands from 129 to 153
+  pub q2 : Judges (take 129 bytesQ ++ (frame (itemRec (made (1 ∷ []) (0 ∷ []) 7 3)) ++ drop 153 bytesQ))
+      (record { code = 8; place = 129; n = 0; m = 0; items = 0 })
+  -- "Q3 2 / 2, 7, 7 isn't (stuck)."
+  pub q3 : Judges (bytesQ ++ frame (itemRec (made (2 ∷ []) (2 ∷ []) 7 7))) (record { code = 8; place = 225; n = 0; m = 0; items = 0 })

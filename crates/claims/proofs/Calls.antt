@@ -1,0 +1,102 @@
+-- The claims of each call, of any routine that keeps the call's contract. Assumes nothing.
+use mathlib.Core.Path.{_≡_, subst₂}
+use mathlib.Core.List.{List}
+use Prim.Native.Nat.{ℕ}
+use prog.Routine.{Routine}
+use Rattle.reader.specs.Contract.{ReadAs}
+use Rattle.reader.proofs.Exactly.{reads}
+use Rattle.reader.proofs.Unique.{zero↔ as read-zero↔}
+use Rattle.reader.proofs.read as read
+use Rattle.checker.specs.Contract.{CheckAs}
+use Rattle.checker.proofs.Exactly.{checks}
+use Rattle.checker.proofs.Unique.{zero↔ as check-zero↔, eight↔}
+use Rattle.checker.proofs.check as check
+use Rattle.writer.specs.Contract.{WriteAs}
+use Rattle.writer.proofs.Answers.{writes}
+use Rattle.writer.proofs.RoundTrips.{writes-zero↔, write-well-formed, write-length}
+use Rattle.writer.proofs.write as write
+use Rattle.runs.specs.RunBytes.{runBytes}
+use Rattle.book.specs.Example.{bytesQ}
+use Rattle.assembly.specs.declared.Assembly.{Assembly}
+use Rattle.assembly.specs.Assembles.{LegForm, inBytes, Assembles}
+use Rattle.assembly.specs.Contract.{AssembleAs}
+use Rattle.assembly.proofs.Exactly.{even-bytes, assembles}
+use Rattle.assembly.proofs.Demand.{demand}
+use Rattle.assembly.proofs.assemble as assemble
+use Rattle.ridge.specs.Computed.{lookupOf}
+use Rattle.ridge.proofs.Answers.{looked}
+use Rattle.ridge.proofs.lookup as lookup
+use Rattle.planner.specs.Structs.{inStructs}
+use Rattle.planner.proofs.Structs.{even-structs}
+use Rattle.planner.proofs.rollback_assemble_legs as assemble-legs
+use Rattle.claims.specs.Always.{Always}
+use Rattle.claims.specs.Claims.{onRead, onWrite, onAssemble, onLegs, onLookup, Worked, ReadClaims, CheckClaims, WriteClaims, AssembleClaims, LegsClaims, LookupClaims}
+use Rattle.claims.proofs.Weaker.{weaker}
+use Rattle.claims.proofs.RoundTrips.{read-back, write-back}
+
+module _ (ρ : Routine) where
+  pub read-claims : Always read.ended ρ (onRead ReadAs) → ReadClaims ρ
+  read-claims always =
+      record {
+        contract = always;
+        says = weaker read.ended ρ (onRead ReadAs) _ (λ κs a r e c. reads c) always;
+        zero = weaker read.ended ρ (onRead ReadAs) _ (λ κs a r e c. read-zero↔ (c .bytes) (reads c)) always;
+        given-back = weaker read.ended ρ (onRead ReadAs) _ (λ κs a r e c. read-back (c .bytes) (reads c)) always;
+      }
+
+  pub check-claims : Always check.ended ρ (onRead CheckAs) → CheckClaims ρ
+  check-claims always =
+      record {
+        contract = always;
+        says = weaker check.ended ρ (onRead CheckAs) _ (λ κs a r e c. checks c) always;
+        zero = weaker check.ended ρ (onRead CheckAs) _ (λ κs a r e c. check-zero↔ (c .bytes) (checks c)) always;
+        eight = weaker check.ended ρ (onRead CheckAs) _ (λ κs a r e c. eight↔ (c .bytes) (checks c)) always;
+        worked = weaker check.ended ρ (onRead CheckAs) _ (λ κs a r e c answer judges long. judges .result (checks c) long) always;
+      }
+
+  pub write-claims : Always write.ended ρ (onWrite WriteAs) → WriteClaims ρ
+  write-claims always =
+      record {
+        contract = always;
+        says = weaker write.ended ρ (onWrite WriteAs) _ (λ κs a r e c. writes c) always;
+        zero = weaker write.ended ρ (onWrite WriteAs) _ (λ κs a r e c. writes-zero↔ (c .bytes) (writes c)) always;
+        well-formed = weaker write.ended ρ (onWrite WriteAs) _ (λ κs a r e c z. (write-well-formed (writes c) z, write-length (writes c))) always;
+        same-bytes = weaker write.ended ρ (onWrite WriteAs) _ (λ κs a r e c. write-back (c .bytes) (writes c)) always;
+      }
+
+-- a run of the joint table, whatever bytes it came in
+worked-at : {E : Type 0} (form : LegForm E) {book run table slots plan : List ℕ} {legs : List E} {r : Assembly} {table′ slots′ plan′ : List ℕ}
+    {legs′ : List E} → Assembles form book run table slots plan legs r table′ slots′ plan′ legs′
+    → Worked form book run table slots plan legs r table′ slots′ plan′ legs′
+worked-at form {table = table} {slots} {plan} {legs} {r} {table′} {slots′} {plan′} {legs′} x u a give e f room long =
+    give .left (subst₂ (λ (y z : List ℕ). Assembles form y z table slots plan legs r table′ slots′ plan′ legs′) e f x) room long
+
+module _ (ρ : Routine) where
+  pub assemble-claims : Always assemble.ended ρ (onAssemble (AssembleAs inBytes)) → AssembleClaims ρ
+  assemble-claims always =
+      record {
+        contract = always;
+        says = weaker assemble.ended ρ (onAssemble (AssembleAs inBytes)) _ (λ κs a r e c. assembles even-bytes c) always;
+        demand-three =
+            weaker assemble.ended ρ (onAssemble (AssembleAs inBytes)) _ (λ κs a r e c. demand even-bytes (c .bytes) (assembles even-bytes c)) always;
+        worked = weaker assemble.ended ρ (onAssemble (AssembleAs inBytes)) _ (λ κs a r e c. worked-at inBytes (assembles even-bytes c)) always;
+      }
+
+  pub legs-claims : Always assemble-legs.ended ρ (onLegs (AssembleAs inStructs)) → LegsClaims ρ
+  legs-claims always =
+      record {
+        contract = always;
+        says = weaker assemble-legs.ended ρ (onLegs (AssembleAs inStructs)) _ (λ κs a r e c. assembles even-structs c) always;
+        demand-three =
+            weaker assemble-legs.ended ρ (onLegs (AssembleAs inStructs)) _
+            (λ κs a r e c. demand even-structs (c .bytes) (assembles even-structs c)) always;
+        worked = weaker assemble-legs.ended ρ (onLegs (AssembleAs inStructs)) _ (λ κs a r e c. worked-at inStructs (assembles even-structs c)) always;
+      }
+
+  pub lookup-claims : Always lookup.ended ρ (onLookup (λ state command r. r ≡ lookupOf state command)) → LookupClaims ρ
+  lookup-claims always =
+      record {
+        contract = always;
+        says =
+            weaker lookup.ended ρ (onLookup (λ state command r. r ≡ lookupOf state command)) _ (λ κs a r e. looked (a .0) (a .1 .0) r) always;
+      }

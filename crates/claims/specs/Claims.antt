@@ -22,7 +22,8 @@ use Rattle.assembly.specs.Assembles.{inBytes, Assembles}
 use Rattle.assembly.specs.Contract.{AssembleAs}
 use Rattle.assembly.specs.Demand.{Demand}
 use Rattle.assembly.proofs.assemble as assemble
-use Rattle.ridge.specs.Lookup.{Looked, lookupOf}
+use Rattle.ridge.specs.Lookup.{Looked}
+use Rattle.ridge.specs.Computed.{lookupOf}
 use Rattle.ridge.proofs.lookup as lookup
 use Rattle.planner.specs.Structs.{inStructs}
 use Rattle.planner.proofs.rollback_assemble_legs as assemble-legs

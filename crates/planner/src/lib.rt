@@ -15,7 +15,7 @@ ghost use Rattle.assembly.specs.Contract.{AssembleAs};
 ghost use Rattle.assembly.specs.Assembles.{inBytes};
 ghost use Rattle.planner.specs.Structs.{inStructs};
 ghost use Rattle.planner.specs.Whole.{legAt, structsIn, WholeAs};
-ghost use Rattle.ridge.specs.Lookup.{lookupOf};
+ghost use Rattle.ridge.specs.Computed.{lookupOf};
 
 #[no_mangle]
 pub extern "C" fn rollback_read(book: &[u8], table: &mut [u64], slots: &mut [u8]) -> Reading

@@ -1,35 +1,47 @@
--- The figures that 01 gives of the ridge repeater. Assumes nothing.
+-- The ridge repeater's figures. Assumes nothing.
 use mathlib.Core.Path.{_≡_, refl}
-use mathlib.Core.List.{List, [], _∷_}
-use Prim.Native.Nat.{ℕ, suc, _+_, _*_, _≤_}
+use Prim.Native.Nat.{ℕ, _+_, _*_, _≤_}
 use native.Mathlib.Omega.{arith}
-use lib.Dec.{eqb}
 use Rattle.base.specs.Tests.{pick}
 use Rattle.base.specs.Bounded.{union}
 use Rattle.ridge.specs.Ridge.{channel, power, mode}
-use Rattle.ridge.specs.Computed.{single, ruleMask}
-use Rattle.ridge.specs.Masks.{masks}
+use Rattle.ridge.specs.Figures.{Figures}
+use Rattle.ridge.specs.Computed.{single, ruleMask, lookupOf}
+use Rattle.ridge.proofs.Answers.{looked}
 
 -- "State = c + 4 × p + 16 × q: channel c, power p, mode q, each 0 to 3"
 pub coordinates : (s : ℕ) → s ≤ 63 → (s ≡ channel s + 4 * power s + 16 * mode s) × (channel s ≤ 3) × (power s ≤ 3) × (mode s ≤ 3)
 coordinates s h = omega arith
 
--- how many sets of a list are not empty
-abbrev pub filled : List ℕ → ℕ
-filled [] = 0
-filled (w ∷ ws) = pick (eqb w 0) (filled ws) (suc (filled ws))
-
--- "616 aren't empty."
-pub not-empty : filled masks ≡ 616
-unfolding pick
-not-empty = refl
-
--- "State 0, command 13: 15."
-pub state-0-command-13 : ruleMask 0 13 ≡ 15
-unfolding pick union single ruleMask
-state-0-command-13 = refl
-
--- "State 16, command 2: 327,680."
-pub state-16-command-2 : ruleMask 16 2 ≡ 327680
-unfolding pick single ruleMask
-state-16-command-2 = refl
+-- each mask computed, and carried to the relation
+pub figures : Figures
+unfolding pick union single ruleMask lookupOf
+figures =
+    record {
+      channel-standby = looked 11 1 _ refl;
+      channel-relay = looked 27 1 _ refl;
+      state-16-command-2 = looked 16 2 _ refl;
+      channel-beacon = looked 39 1 _ refl;
+      power-0 = looked 39 4 _ refl;
+      power-1 = looked 30 5 _ refl;
+      power-2 = looked 45 6 _ refl;
+      power-3 = looked 27 7 _ refl;
+      power-locked = looked 57 7 _ refl;
+      mode-0 = looked 45 8 _ refl;
+      mode-1 = looked 45 9 _ refl;
+      mode-2 = looked 30 10 _ refl;
+      mode-locked = looked 57 10 _ refl;
+      lock = looked 27 11 _ refl;
+      lock-locked = looked 57 11 _ refl;
+      unlock = looked 57 12 _ refl;
+      unlock-beacon = looked 39 12 _ refl;
+      any-channel = looked 11 13 _ refl;
+      state-0-command-13 = looked 0 13 _ refl;
+      any-relay = looked 27 13 _ refl;
+      more = looked 39 14 _ refl;
+      most = looked 45 14 _ refl;
+      more-locked = looked 57 14 _ refl;
+      less = looked 30 15 _ refl;
+      least = looked 35 15 _ refl;
+      less-locked = looked 57 15 _ refl;
+    }

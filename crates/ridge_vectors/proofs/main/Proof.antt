@@ -22,11 +22,8 @@ loop-holds c = search needs
 loop2-holds : tie.Need-loop2-holds Inv-loop2 μ-loop2 Inv-loop μ-loop
 loop2-holds c = search needs
 
-lookup-requires : tie.Need-lookup-requires Inv-loop2 μ-loop2 Inv-loop μ-loop
-lookup-requires c κs = search needs
-
-print-line-requires : tie.Need-print-line-requires Inv-loop2 μ-loop2 Inv-loop μ-loop
-print-line-requires c κs = search needs
+print-mask-requires : tie.Need-print-mask-requires Inv-loop2 μ-loop2 Inv-loop μ-loop
+print-mask-requires c κs = search needs
 
 add-command : tie.Need-add-command Inv-loop2 μ-loop2 Inv-loop μ-loop
 add-command c = search needs
@@ -59,8 +56,7 @@ main-spec =
     μ-loop
     loop-holds
     loop2-holds
-    lookup-requires
-    print-line-requires
+    print-mask-requires
     add-command
     loop2-less
     loop2-again

@@ -61,7 +61,7 @@ use Rattle.assembly.proofs.assemble.Symbol.{routine as assemble-routine}
 use Rattle.assembly.proofs.assemble.Met.{met as assemble-met}
 use Rattle.ridge.specs.declared.LookupResult.{LookupResult}
 use Rattle.ridge.specs.Lookup.{Looked}
-use Rattle.ridge.proofs.Unique.{looked-unique}
+use Rattle.ridge.proofs.Answers.{looked-unique}
 use Rattle.ridge.proofs.lookup.Symbol.{routine as lookup-routine}
 use Rattle.ridge.proofs.lookup.Met.{met as lookup-met}
 use Rattle.planner.specs.Structs.{inStructs}

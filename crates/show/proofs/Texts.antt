@@ -71,7 +71,7 @@ module _ (n : ℕ) (plan : List ℕ) where
     plan-last h l new end u = let p : n - i ≡ 1 = omega arith in w new end (rw (p, ← e) u)
 
 -- the first of a list are as many as there are
-take-min : (k : ℕ) (l : List ℕ) → take (min k (length l)) l ≡ take k l
+pub take-min : (k : ℕ) (l : List ℕ) → take (min k (length l)) l ≡ take k l
 take-min zero l = let e : min 0 (length l) ≡ 0 = omega arith in rw e
 take-min (suc k) [] = take-nil (min (suc k) 0)
 take-min (suc k) (x ∷ l) = rw suc-min-suc (ap (λ (t : List ℕ). x ∷ t) (take-min k l))

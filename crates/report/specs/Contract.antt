@@ -1,0 +1,37 @@
+-- The text for a book's and a run's bytes, computed. proofs/Exactly ties it to specs/Prints. Assumes nothing: these are definitions.
+use mathlib.Core.Path.{_≡_}
+use mathlib.Core.List.{List}
+use Prim.Native.Nat.{ℕ, _<_, _≤_}
+use lib.ListN.{length, take, replicate}
+use lib.Seq.{sets}
+use Rattle.base.specs.Lists.{Each}
+use Rattle.reversal.specs.Answers.{Answer}
+use Rattle.assembly.specs.declared.Assembly.{Assembly}
+use Rattle.assembly.specs.Assembles.{inBytes, refusal, resultOf}
+use Rattle.assembly.specs.Contract.{assembleBy}
+use Rattle.show.specs.Show.{linesOf, planned}
+
+-- assembling, of the bytes that are judged and zeroed buffers
+abbrev pub judgedBy : {A : Type 0} → List ℕ → List ℕ → (ℕ → ℕ → A) → (Answer → A) → A
+judgedBy book run = assembleBy inBytes (take 31111 book) (take 302 run) (replicate 2048 0) (replicate 2176 0) (replicate 256 0) (replicate 96 0)
+
+abbrev pub resultFor : List ℕ → List ℕ → Assembly
+resultFor book run = judgedBy book run refusal resultOf
+
+-- the plan buffer at exit
+abbrev pub planFor : List ℕ → List ℕ → List ℕ
+planFor book run = judgedBy book run (λ code place. replicate 256 0) (λ a. sets (replicate 256 0) 0 (a .plan-bytes))
+
+abbrev pub linesFor : Assembly → List ℕ → List ℕ
+linesFor r plan = linesOf (r .code) (r .place) (r .commands) (r .legs) (planned (r .commands) plan)
+
+unfoldable pub textOf : List ℕ → List ℕ → List ℕ
+textOf book run = linesFor (resultFor book run) (planFor book run)
+
+-- the contract of `report`
+pub record ReportAs (book run out : List ℕ) (r : ℕ) (out′ : List ℕ) : Type 0 where
+  pub bytes : Each (λ x. x < 256) (take 31111 book)
+  pub run-bytes : Each (λ x. x < 256) (take 302 run)
+  pub size : r ≡ length (textOf book run)
+  pub most : r ≤ 5461
+  pub stored : out′ ≡ sets out 0 (textOf book run)

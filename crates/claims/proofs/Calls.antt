@@ -29,8 +29,11 @@ use Rattle.ridge.proofs.lookup as lookup
 use Rattle.planner.specs.Structs.{inStructs}
 use Rattle.planner.proofs.Structs.{even-structs}
 use Rattle.planner.proofs.rollback_assemble_legs as assemble-legs
+use Rattle.report.specs.Contract.{ReportAs}
+use Rattle.report.proofs.Exactly.{reports}
+use Rattle.report.proofs.report as report
 use Rattle.claims.specs.Always.{Always}
-use Rattle.claims.specs.Claims.{onRead, onWrite, onAssemble, onLegs, onLookup, Worked, ReadClaims, CheckClaims, WriteClaims, AssembleClaims, LegsClaims, LookupClaims}
+use Rattle.claims.specs.Claims.{onRead, onWrite, onAssemble, onLegs, onLookup, onReport, Worked, ReadClaims, CheckClaims, WriteClaims, AssembleClaims, LegsClaims, LookupClaims, ReportClaims}
 use Rattle.claims.proofs.Weaker.{weaker}
 use Rattle.claims.proofs.RoundTrips.{read-back, write-back}
 
@@ -100,3 +103,7 @@ module _ (ρ : Routine) where
         says =
             weaker lookup.ended ρ (onLookup (λ state command r. r ≡ lookupOf state command)) _ (λ κs a r e. looked (a .0) (a .1 .0) r) always;
       }
+
+  pub report-claims : Always report.ended ρ (onReport ReportAs) → ReportClaims ρ
+  report-claims always =
+      record { contract = always; says = weaker report.ended ρ (onReport ReportAs) _ (λ κs a r e c. reports c) always }

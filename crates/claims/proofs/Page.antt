@@ -5,7 +5,7 @@ use mathlib.Core.Logic.{_↔_}
 use mathlib.Core.List.{List}
 use Prim.Native.Nat.{ℕ, _+_, _*_, _≤_, _<_, zero-le}
 use lib.Dec.{T}
-use lib.ListN.{length, getD}
+use lib.ListN.{length, getD, take}
 use Rattle.base.specs.Sets.{In, NoBitFrom}
 use Rattle.base.specs.Lists.{Each, Bytes}
 use Rattle.reversal.specs.Device.{Device, Proper, tabled}
@@ -79,8 +79,15 @@ use Rattle.planner.proofs.rollback_assemble_legs.Symbol.{routine as assemble-le
 use Rattle.planner.proofs.rollback_assemble_legs.Met.{met as assemble-legs-met}
 use Rattle.planner.proofs.rollback_ridge.Symbol.{routine as exported-ridge-routine}
 use Rattle.planner.proofs.rollback_ridge.Met.{met as exported-ridge-met}
-use Rattle.claims.specs.Claims.{ReadClaims, CheckClaims, WriteClaims, AssembleClaims, LegsClaims, LookupClaims}
-use Rattle.claims.proofs.Calls.{read-claims, check-claims, write-claims, assemble-claims, legs-claims, lookup-claims}
+use Rattle.report.specs.Prints.{Prints}
+use Rattle.report.specs.Example.{Examples}
+use Rattle.report.proofs.Exactly.{prints-first}
+use Rattle.report.proofs.Unique.{prints-unique}
+use Rattle.report.proofs.Cases.{examples}
+use Rattle.report.proofs.report.Symbol.{routine as report-routine}
+use Rattle.report.proofs.report.Met.{met as report-met}
+use Rattle.claims.specs.Claims.{ReadClaims, CheckClaims, WriteClaims, AssembleClaims, LegsClaims, LookupClaims, ReportClaims}
+use Rattle.claims.proofs.Calls.{read-claims, check-claims, write-claims, assemble-claims, legs-claims, lookup-claims, report-claims}
 
 -- ---- the meaning
 
@@ -160,6 +167,15 @@ looking-up = lookup-claims lookup-routine (λ M. lookup-met)
 pub exported-looking-up : LookupClaims exported-ridge-routine
 exported-looking-up = lookup-claims exported-ridge-routine (λ M. exported-ridge-met)
 
+-- the text that the program prints
+pub printing : ReportClaims report-routine
+printing = report-claims report-routine (λ M. report-met)
+
+-- what lies past the first 31,111 and 302 bytes changes nothing
+pub printing-first : {book run book′ run′ text : List ℕ} → take 31111 book ≡ take 31111 book′ → take 302 run ≡ take 302 run′ → Prints book run text
+    → Prints book′ run′ text
+printing-first = prints-first
+
 -- ---- what 01 says leaves one answer only: for equal arguments, in the result and in every buffer at exit
 
 pub only-reading : {book table slots : List ℕ} {r q : Reading} {t s t′ s′ : List ℕ} → Bytes book → Reads book table slots r t s
@@ -182,6 +198,9 @@ only-assembling = assembles-unique
 
 pub only-looking-up : (state command : ℕ) (r q : LookupResult) → Looked state command r → Looked state command q → r ≡ q
 only-looking-up = looked-unique
+
+pub only-printing : {book run text text′ : List ℕ} → Bytes (take 31111 book) → Prints book run text → Prints book run text′ → text ≡ text′
+only-printing = prints-unique
 
 -- demand 3 alone, where no refusal before it is due and some history fits: which of 0 and 11, the numbers, and on 0 counts, plan and legs
 pub only-demand : {E : Type 0} (form : LegForm E) {book run table slots plan : List ℕ} {legs : List E} {b : Book} {u : Run}
@@ -217,6 +236,10 @@ runs-in-structs = runs inStructs
 
 pub leg-structs : StructRuns
 leg-structs = struct-runs
+
+-- the program's text for Q5, Q8, Q9 and Q11
+pub printed : Examples
+printed = examples
 
 -- refusals of books, of runs and of writing: each code, and each step of the order
 pub spoilt-books : book-example.Spoilt

@@ -38,6 +38,9 @@ use Rattle.ridge.proofs.lookup as lookup
 use Rattle.planner.specs.declared.Leg.{Leg}
 use Rattle.planner.specs.Structs.{inStructs}
 use Rattle.planner.proofs.rollback_assemble_legs as assemble-legs
+use Rattle.report.specs.Prints.{Reports}
+use Rattle.report.specs.Contract.{ReportAs}
+use Rattle.report.proofs.report as report
 use Rattle.claims.specs.Always.{After, Always}
 
 -- ---- the shape of each call: P of the arguments, the result and what is at exit
@@ -61,6 +64,9 @@ onLegs P κs (book, (run, (table, (slots, (plan, (legs, _)))))) r (_, (_, (table
 
 abbrev pub onLookup : (ℕ → ℕ → LookupResult → Type 0) → After lookup.ended
 onLookup P κs (state, (command, _)) r e = P state command r
+
+abbrev pub onReport : (List ℕ → List ℕ → List ℕ → ℕ → List ℕ → Type 0) → After report.ended
+onReport P κs (book, (run, (out, _))) r (_, (_, (out′, _))) = P (now book) (now run) (now out) r (now out′)
 
 -- ---- the round trips: of one call, whatever the other was given
 
@@ -150,3 +156,9 @@ pub record LookupClaims (ρ : Routine) : Type 2 where
   pub contract : Always lookup.ended ρ (onLookup (λ state command r. r ≡ lookupOf state command))
   -- 01: "A lookup with state over 63 or command over 15 returns 5, 0 and mask 0; else 0, 0 and the mask"
   pub says : Always lookup.ended ρ (onLookup Looked)
+
+-- the program's text
+pub record ReportClaims (ρ : Routine) : Type 2 where
+  pub contract : Always report.ended ρ (onReport ReportAs)
+  -- 01: "The program `rollback` judges at most the first 31,111 bytes of book.bin and 302 of run.bin"; its two lines, in the lent row
+  pub says : Always report.ended ρ (onReport Reports)

@@ -18,8 +18,8 @@ use Rattle.book.proofs.Fields.{all-on}
 use Rattle.reader.specs.Reads.{Long}
 use Rattle.runs.specs.RunBytes.{masksBytes, runBytes}
 use Rattle.assembly.specs.declared.Assembly.{Assembly}
-use Rattle.assembly.specs.Assembles.{inBytes, Room}
-use Rattle.assembly.specs.Cases.{Left, BytesGive, Runs}
+use Rattle.assembly.specs.Assembles.{inBytes, Room, Left}
+use Rattle.assembly.specs.Cases.{BytesGive, Runs}
 use Rattle.assembly.proofs.Exactly.{even-bytes, assembles}
 use Rattle.assembly.proofs.Cases.{runs}
 use Rattle.show.specs.Show.{decimalIn, decimal, line, linesOf}
@@ -33,7 +33,7 @@ left-lines : {a : Answer} {plan legs : List ℕ} {r : Assembly} {plan′ legs′
     → linesOf (a .code) 0 (a .commands) (a .leg-count) (a .plan-bytes) ≡ linesOf (r .code) (r .place) (r .commands) (r .legs) (take (r .commands) plan′)
 left-lines {a} {plan} {legs} {r} {plan′} l counted =
     let front : take (a .commands) plan′ ≡ a .plan-bytes = ap (λ (n : ℕ). take n plan′) counted ∙ l .plan-written .front in
-    rw (l .result, front)
+    rw (l .result-is, front)
 
 -- what a case prints
 module _ (u : Run) (a : Answer) (gives : BytesGive inBytes u a) (short : length (runBytes u) ≤ 302) (bytes : allBelow 256 (runBytes u) ≡ true)
@@ -50,7 +50,10 @@ module _ (u : Run) (a : Answer) (gives : BytesGive inBytes u a) (short : length 
         plan = planFor bytesQ (runBytes u);
         legs = legs;
         assembled = assembles even-bytes c;
-        lines = left-lines (gives .left (subst (λ (s : List ℕ). Zeroed bytesQ s (resultFor bytesQ (runBytes u)) t d (planFor bytesQ (runBytes u)) legs) run c) room long) counted;
+        lines =
+            left-lines
+            (gives .left (assembles even-bytes (subst (λ (s : List ℕ). Zeroed bytesQ s (resultFor bytesQ (runBytes u)) t d (planFor bytesQ (runBytes u)) legs) run c)) room long)
+            counted;
       }
     where
       room : Room inBytes (replicate 256 0) (replicate 96 0)
@@ -70,4 +73,4 @@ examples =
     }
   where
     cases : Runs inBytes
-    cases = runs inBytes even-bytes
+    cases = runs inBytes

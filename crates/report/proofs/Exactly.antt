@@ -5,7 +5,7 @@ use Prim.Native.Nat.{ℕ, _≤_, _<_, min}
 use native.Mathlib.Omega.{arith}
 use lib.ListN.{length, take, replicate, length-replicate}
 use lib.Seq.{sets, take-all, length-sets}
-use Rattle.base.specs.Lists.{Each}
+use Rattle.base.specs.Lists.{Bytes}
 use Rattle.show.specs.Show.{linesOf}
 use Rattle.show.proofs.Texts.{take-min}
 use Rattle.assembly.specs.declared.Assembly.{Assembly}
@@ -64,7 +64,7 @@ module _ (book run : List ℕ) {r : Assembly} {t d plan legs : List ℕ} (c : Ze
       }
 
 -- any bytes are assembled, and some text is printed for them
-module _ (book run : List ℕ) (b : Each (λ x. x < 256) (take 31111 book)) (u : Each (λ x. x < 256) (take 302 run)) where
+module _ (book run : List ℕ) (b : Bytes (take 31111 book)) (u : Bytes (take 302 run)) where
   pub zeroed : (t : List ℕ) × ((d : List ℕ) × ((legs : List ℕ) × Zeroed (take 31111 book) (take 302 run) (resultFor book run) t d (planFor book run) legs))
   zeroed = (_, (_, (_, record { bytes = b; run-bytes = u; result = refl; table-is = refl; slots-is = refl; plan-is = refl; legs-is = refl })))
 

@@ -4,7 +4,7 @@ use mathlib.Core.List.{List}
 use Prim.Native.Nat.{ℕ, _<_, _≤_}
 use lib.ListN.{length, take, replicate}
 use lib.Seq.{sets}
-use Rattle.base.specs.Lists.{Each}
+use Rattle.base.specs.Lists.{Bytes}
 use Rattle.reversal.specs.Answers.{Answer}
 use Rattle.assembly.specs.declared.Assembly.{Assembly}
 use Rattle.assembly.specs.Assembles.{inBytes, refusal, resultOf}
@@ -30,8 +30,8 @@ textOf book run = linesFor (resultFor book run) (planFor book run)
 
 -- the contract of `report`
 pub record ReportAs (book run out : List ℕ) (r : ℕ) (out′ : List ℕ) : Type 0 where
-  pub bytes : Each (λ x. x < 256) (take 31111 book)
-  pub run-bytes : Each (λ x. x < 256) (take 302 run)
+  pub bytes : Bytes (take 31111 book)
+  pub run-bytes : Bytes (take 302 run)
   pub size : r ≡ length (textOf book run)
   pub most : r ≤ 5461
   pub stored : out′ ≡ sets out 0 (textOf book run)

@@ -33,7 +33,7 @@ use Rattle.report.specs.Contract.{ReportAs}
 use Rattle.report.proofs.Exactly.{reports}
 use Rattle.report.proofs.report as report
 use Rattle.claims.specs.Always.{Always}
-use Rattle.claims.specs.Claims.{onRead, onWrite, onAssemble, onLegs, onLookup, onReport, Worked, ReadClaims, CheckClaims, WriteClaims, AssembleClaims, LegsClaims, LookupClaims, ReportClaims}
+use Rattle.claims.specs.Claims.{onRead, onWrite, onAssemble, onLegs, onLookup, onReport, ChecksWorked, WellWritten, Worked, ReadClaims, CheckClaims, WriteClaims, AssembleClaims, LegsClaims, LookupClaims, ReportClaims}
 use Rattle.claims.proofs.Weaker.{weaker}
 use Rattle.claims.proofs.RoundTrips.{read-back, write-back}
 
@@ -54,7 +54,7 @@ module _ (ρ : Routine) where
         says = weaker check.ended ρ (onRead CheckAs) _ (λ κs a r e c. checks c) always;
         zero = weaker check.ended ρ (onRead CheckAs) _ (λ κs a r e c. check-zero↔ (c .bytes) (checks c)) always;
         eight = weaker check.ended ρ (onRead CheckAs) _ (λ κs a r e c. eight↔ (c .bytes) (checks c)) always;
-        worked = weaker check.ended ρ (onRead CheckAs) _ (λ κs a r e c answer judges long. judges .result (checks c) long) always;
+        worked = weaker check.ended ρ (onRead CheckAs) (onRead ChecksWorked) (λ κs a r e c answer judges long. judges .result (checks c) long) always;
       }
 
   pub write-claims : Always write.ended ρ (onWrite WriteAs) → WriteClaims ρ
@@ -63,7 +63,7 @@ module _ (ρ : Routine) where
         contract = always;
         says = weaker write.ended ρ (onWrite WriteAs) _ (λ κs a r e c. writes c) always;
         zero = weaker write.ended ρ (onWrite WriteAs) _ (λ κs a r e c. writes-zero↔ (c .bytes) (writes c)) always;
-        well-formed = weaker write.ended ρ (onWrite WriteAs) _ (λ κs a r e c z. (write-well-formed (writes c) z, write-length (writes c))) always;
+        well-formed = weaker write.ended ρ (onWrite WriteAs) (onWrite WellWritten) (λ κs a r e c z. (write-well-formed (writes c) z, write-length (writes c))) always;
         same-bytes = weaker write.ended ρ (onWrite WriteAs) _ (λ κs a r e c. write-back (c .bytes) (writes c)) always;
       }
 

@@ -180,21 +180,21 @@ printing-first = prints-first
 
 pub only-reading : {book table slots : List ℕ} {r q : Reading} {t s t′ s′ : List ℕ} → Bytes book → Reads book table slots r t s
     → Reads book table slots q t′ s′ → (r ≡ q) × (t ≡ t′) × (s ≡ s′)
-only-reading = reads-unique
+only-reading h x y = reads-unique h x y
 
 pub only-checking : {book table slots : List ℕ} {r q : Reading} {t s t′ s′ : List ℕ} → Bytes book → Checks book table slots r t s
     → Checks book table slots q t′ s′ → (r ≡ q) × (t ≡ t′) × (s ≡ s′)
-only-checking = checks-unique
+only-checking h x y = checks-unique h x y
 
 pub only-writing : {n m items : ℕ} {table slots out : List ℕ} {r q : Writing} {o o′ : List ℕ} → Bytes slots → Writes n m items table slots out r o
     → Writes n m items table slots out q o′ → (r ≡ q) × (o ≡ o′)
-only-writing = writes-unique
+only-writing h x y = writes-unique h x y
 
 -- for either form of the legs
 pub only-assembling : {E : Type 0} {form : LegForm E} {book run table slots plan : List ℕ} {legs : List E} {r q : Assembly} {t s p t′ s′ p′ : List ℕ}
     {l l′ : List E} → Bytes book → Assembles form book run table slots plan legs r t s p l → Assembles form book run table slots plan legs q t′ s′ p′ l′
     → (r ≡ q) × (t ≡ t′) × (s ≡ s′) × (p ≡ p′) × (l ≡ l′)
-only-assembling = assembles-unique
+only-assembling h x y = assembles-unique h x y
 
 pub only-looking-up : (state command : ℕ) (r q : LookupResult) → Looked state command r → Looked state command q → r ≡ q
 only-looking-up = looked-unique
@@ -207,7 +207,7 @@ pub only-demand : {E : Type 0} (form : LegForm E) {book run table slots plan : L
     → Ready form book run table slots plan legs b u → {r q : Assembly} {p p′ : List ℕ} {l l′ : List E}
     → Demand form book run table slots plan legs r p l → Demand form book run table slots plan legs q p′ l′
     → (r .code ≡ q .code) × (r .fewest ≡ q .fewest) × (r .code ≡ 0 → SamePlan form r q p p′ l l′)
-only-demand = demand-unique
+only-demand form ready x y = demand-unique form ready x y
 
 pub only-answer : (d : Device) (items : List Item) (r : Run) (a b : Answer) → Answers d items r a → Answers d items r b → a ≡ b
 only-answer = answers-unique

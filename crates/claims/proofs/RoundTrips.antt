@@ -15,7 +15,7 @@ use Rattle.reader.specs.declared.Reading.{Reading}
 use Rattle.reader.specs.Reads.{done, Long, Filled, Reads, short, faulty, fine}
 use Rattle.reader.proofs.Unique.{not-both}
 use Rattle.writer.specs.declared.Writing.{Writing}
-use Rattle.writer.specs.Writes.{BookWritten, Writes}
+use Rattle.writer.specs.Writes.{LongEnough, BookWritten, Writes}
 use Rattle.writer.proofs.Answers.{held-written}
 use Rattle.writer.proofs.RoundTrips.{done-of, book-bytes}
 use Rattle.claims.specs.Claims.{GivenBack, ReadBack, WriteBack}
@@ -24,7 +24,7 @@ pub write-back : {n m items : ℕ} {table slots out : List ℕ} {r : Writing} {o
     → WriteBack n m items table slots out r out′
 write-back {n} {m} {items} {table} {slots} {out} {r} {out′} h x book t s reads room = go reads
   where
-    abbrev read : Reading
+    read : Reading
     read = record { code = 0; place = 0; n = n; m = m; items = items }
 
     code-of : {y : Reading} → read ≡ y → 0 ≡ y .code
@@ -36,7 +36,7 @@ write-back {n} {m} {items} {table} {slots} {out} {r} {out′} h x book t s reads
     go (fine b f e) =
         let holds : Holds n m items table slots b
         = subst (λ (y : Reading). Holds (y .n) (y .m) (y .items) table slots b) (sym e) (read-holds (f .table-read) (f .slots-read)) in
-        let long = record {
+        let long : LongEnough table slots out = record {
           table-size = omega (arith, f .table-read .size, f .long .0);
           slots-size = omega (arith, f .slots-read .size, f .long .1);
           out-size = room;
@@ -47,7 +47,7 @@ pub read-back : {book table slots : List ℕ} {r : Reading} {table′ slots′ :
     → ReadBack book table slots r table′ slots′
 read-back {book} {table} {slots} {r} {table′} {slots′} h reads n m items t s out w out′ x z e l = go reads
   where
-    abbrev b : Book
+    b : Book
     b = done-of z x .1 .0
 
     allowed : AllowedBook b

@@ -45,10 +45,16 @@ use Rattle.claims.specs.Always.{After, Always}
 
 -- ---- the shape of each call: P of the arguments, the result and what is at exit
 
-abbrev pub onRead : (List ℕ → List ℕ → List ℕ → Reading → List ℕ → List ℕ → Type 0) → After read.ended
+abbrev pub Read : Type 1
+Read = List ℕ → List ℕ → List ℕ → Reading → List ℕ → List ℕ → Type 0
+
+abbrev pub onRead : Read → After read.ended
 onRead P κs (book, (table, (slots, _))) r (_, (table′, (slots′, _))) = P (now book) (now table) (now slots) r (now table′) (now slots′)
 
-abbrev pub onWrite : (ℕ → ℕ → ℕ → List ℕ → List ℕ → List ℕ → Writing → List ℕ → Type 0) → After write.ended
+abbrev pub Write : Type 1
+Write = ℕ → ℕ → ℕ → List ℕ → List ℕ → List ℕ → Writing → List ℕ → Type 0
+
+abbrev pub onWrite : Write → After write.ended
 onWrite P κs (n, (m, (items, (table, (slots, (out, _)))))) r (_, (_, (_, (_, (_, (out′, _)))))) = P n m items (now table) (now slots) (now out) r (now out′)
 
 abbrev pub Assemble : Type 0 → Type 1
@@ -77,55 +83,66 @@ pub record GivenBack (n m items : ℕ) (table slots : List ℕ) (r : Reading) (t
   pub slots-same : take (34 * items) slots′ ≡ take (34 * items) slots
 
 -- "writing allowed tables and items and reading them gives those back": the book is what some writing, with code 0, wrote
-abbrev pub ReadBack : List ℕ → List ℕ → List ℕ → Reading → List ℕ → List ℕ → Type 0
+abbrev pub ReadBack : Read
 ReadBack book table slots r table′ slots′ =
     (n m items : ℕ) (t s out : List ℕ) (w : Writing) (out′ : List ℕ) → Writes n m items t s out w out′ → w .code ≡ 0
     → book ≡ take (w .length) out′ → Long table slots → GivenBack n m items t s r table′ slots′
 
 -- "Reading a well-formed book and writing it gives the same bytes": the n, m, count, table and slots are those that some reading, with code 0, left
-abbrev pub WriteBack : ℕ → ℕ → ℕ → List ℕ → List ℕ → List ℕ → Writing → List ℕ → Type 0
+abbrev pub WriteBack : Write
 WriteBack n m items table slots out r out′ =
     (book t s : List ℕ) → Reads book t s (record { code = 0; place = 0; n = n; m = m; items = items }) table slots → 31110 ≤ length out
     → BookWritten book out r out′
 
 -- ---- the claims
 
+-- reading answers 0 exactly on the bytes of some allowed book, in buffers that are long enough
+abbrev pub ReadsZero : Read
+ReadsZero book table slots r table′ slots′ = (r .code ≡ 0) ↔ (Long table slots × WellFormed book)
+
 pub record ReadClaims (ρ : Routine) : Type 2 where
   -- its contract: the result and each buffer at exit, computed
   pub contract : Always read.ended ρ (onRead ReadAs)
   -- 01: "Reading fills a table .. and slots .."; its codes 1 to 7 in their order, and what each leaves behind
   pub says : Always read.ended ρ (onRead Reads)
-  -- it answers 0 exactly on the bytes of some allowed book, in buffers that are long enough
-  pub zero : Always read.ended ρ (onRead (λ book table slots r table′ slots′. (r .code ≡ 0) ↔ (Long table slots × WellFormed book)))
+  pub zero : Always read.ended ρ (onRead ReadsZero)
   pub given-back : Always read.ended ρ (onRead ReadBack)
+
+-- checking answers 0 exactly where the bytes keep the rules and every item is a conditional reverse plan by trajectories
+abbrev pub ChecksZero : Read
+ChecksZero book table slots r table′ slots′ = (r .code ≡ 0) ↔ (Long table slots × ((b : Book) × AcceptedBook book b))
+
+-- and 8 exactly where they keep the rules and some item is not; the place is that of the first such item's record
+abbrev pub ChecksEight : Read
+ChecksEight book table slots r table′ slots′ =
+    (r .code ≡ 8) ↔ (Long table slots × ((b : Book) × AllowedBook b × (bytesOf b ≡ book) × ((i : ℕ) × FirstWrong b i × (r .place ≡ placeOf b i))))
+
+-- the worked cases of checker/specs/Cases, of a call
+abbrev pub ChecksWorked : Read
+ChecksWorked book table slots r table′ slots′ = (answer : Reading) → Judges book answer → Long table slots → r ≡ answer
 
 pub record CheckClaims (ρ : Routine) : Type 2 where
   pub contract : Always check.ended ρ (onRead CheckAs)
   -- 01: "checking a book is reading and 8"
   pub says : Always check.ended ρ (onRead Checks)
-  -- it answers 0 exactly where the bytes keep the rules and every item is a conditional reverse plan by trajectories
-  pub zero : Always check.ended ρ
-      (onRead (λ book table slots r table′ slots′. (r .code ≡ 0) ↔ (Long table slots × ((b : Book) × AcceptedBook book b))))
-  -- and 8 exactly where they keep the rules and some item is not; the place is that of the first such item's record
-  pub eight : Always check.ended ρ
-      (onRead (λ book table slots r table′ slots′.
-      (r .code ≡ 8)
-      ↔ (Long table slots × ((b : Book) × AllowedBook b × (bytesOf b ≡ book) × ((i : ℕ) × FirstWrong b i × (r .place ≡ placeOf b i))))))
-  -- the worked cases of checker/specs/Cases, of the routine
-  pub worked : Always check.ended ρ
-      (onRead (λ book table slots r table′ slots′. (answer : Reading) → Judges book answer → Long table slots → r ≡ answer))
+  pub zero : Always check.ended ρ (onRead ChecksZero)
+  pub eight : Always check.ended ρ (onRead ChecksEight)
+  pub worked : Always check.ended ρ (onRead ChecksWorked)
+
+-- writing answers 0 exactly where the buffers are long enough and table and slots hold an allowed book
+abbrev pub WritesZero : Write
+WritesZero n m items table slots out r out′ = (r .code ≡ 0) ↔ (LongEnough table slots out × ((b : Book) × AllowedBook b × Holds n m items table slots b))
+
+-- what it writes is well-formed, and no longer than any well-formed book
+abbrev pub WellWritten : Write
+WellWritten n m items table slots out r out′ = r .code ≡ 0 → WellFormed (take (r .length) out′) × (r .length ≤ 31110)
 
 pub record WriteClaims (ρ : Routine) : Type 2 where
   pub contract : Always write.ended ρ (onWrite WriteAs)
   -- 01: "Writing takes n, m, an item count .."; its refusals in their order, and what the output holds then
   pub says : Always write.ended ρ (onWrite Writes)
-  -- it answers 0 exactly where the buffers are long enough and table and slots hold an allowed book
-  pub zero : Always write.ended ρ
-      (onWrite (λ n m items table slots out r out′.
-      (r .code ≡ 0) ↔ (LongEnough table slots out × ((b : Book) × AllowedBook b × Holds n m items table slots b))))
-  -- what it writes is well-formed, and no longer than any well-formed book
-  pub well-formed : Always write.ended ρ
-      (onWrite (λ n m items table slots out r out′. r .code ≡ 0 → WellFormed (take (r .length) out′) × (r .length ≤ 31110)))
+  pub zero : Always write.ended ρ (onWrite WritesZero)
+  pub well-formed : Always write.ended ρ (onWrite WellWritten)
   pub same-bytes : Always write.ended ρ (onWrite WriteBack)
 
 -- the runs of the joint table, of a call

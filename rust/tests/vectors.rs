@@ -1,4 +1,4 @@
-//! The cases of a second program, `vectors/`, against the library.
+//! The cases that a second program has answered, against the library.
 
 use rollback::calls::{self, Leg, Reading};
 use rollback_cases::{assemble_cases, book_cases, ridge_masks, write_cases};

@@ -35,8 +35,8 @@ struct Lent {
 
 impl Lent {
     fn new(book: Vec<u8>, run: Vec<u8>) -> Lent {
-        let mut table = vec![0; calls::TABLE];
-        let mut slots = vec![0; calls::SLOTS];
+        let mut table = vec![0; calls::TABLE_LEN];
+        let mut slots = vec![0; calls::SLOTS_LEN];
         let r = calls::check(&book, &mut table, &mut slots);
         assert_eq!(r.code, 0, "the book is accepted");
         Lent {
@@ -44,18 +44,11 @@ impl Lent {
             run,
             table,
             slots,
-            plan: vec![0; calls::PLAN],
-            legs: vec![0; calls::LEGS],
-            structs: vec![
-                calls::Leg {
-                    item: 0,
-                    upper: 0,
-                    lower: 0
-                };
-                calls::LEG_STRUCTS
-            ],
-            plain_structs: vec![Default::default(); calls::LEG_STRUCTS],
-            out: vec![0; calls::BOOK_MAX],
+            plan: vec![0; calls::PLAN_LEN],
+            legs: vec![0; calls::LEGS_LEN],
+            structs: vec![Default::default(); calls::LEG_STRUCTS_LEN],
+            plain_structs: vec![Default::default(); calls::LEG_STRUCTS_LEN],
+            out: vec![0; calls::BOOK_LEN],
             device: [r.n, r.m, r.items],
         }
     }

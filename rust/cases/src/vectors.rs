@@ -9,7 +9,12 @@ macro_rules! data {
 
 macro_rules! answers {
     ($name:literal) => {
-        include_str!(concat!(env!("CARGO_MANIFEST_DIR"), "/../../crates/", $name, "/stdout"))
+        include_str!(concat!(
+            env!("CARGO_MANIFEST_DIR"),
+            "/../../crates/",
+            $name,
+            "/stdout"
+        ))
     };
 }
 

@@ -3,7 +3,7 @@
 
 use std::hint::black_box;
 use std::path::Path;
-use std::process::Command;
+use std::process::{Command, Stdio};
 use std::time::{Duration, Instant};
 use std::{env, fs, process};
 
@@ -46,8 +46,8 @@ impl Lent {
             slots,
             plan: vec![0; calls::PLAN_LEN],
             legs: vec![0; calls::LEGS_LEN],
-            structs: vec![Default::default(); calls::LEG_STRUCTS_LEN],
-            plain_structs: vec![Default::default(); calls::LEG_STRUCTS_LEN],
+            structs: vec![calls::Leg::default(); calls::LEG_STRUCTS_LEN],
+            plain_structs: vec![rollback_plain::Leg::default(); calls::LEG_STRUCTS_LEN],
             out: vec![0; calls::BOOK_LEN],
             device: [r.n, r.m, r.items],
         }
@@ -221,7 +221,7 @@ fn stack(books: &[(&str, Vec<u8>, Vec<u8>)]) {
             run.arg(file);
         }
     }
-    let output = run.output().unwrap();
+    let output = run.stderr(Stdio::inherit()).output().unwrap();
     fs::remove_dir_all(&folder).unwrap();
     assert!(output.status.success(), "c/stack.c runs");
     println!("\n## Deepest stack use of each call over these books, in bytes\n");

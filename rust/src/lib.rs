@@ -33,6 +33,7 @@
 #![no_std]
 #![deny(missing_docs)]
 #![deny(unsafe_code)]
+#![warn(clippy::pedantic)]
 
 #[cfg(feature = "std")]
 extern crate std;

@@ -1,5 +1,6 @@
 /*
- * The deepest stack use of each call over some books and runs: stack BOOK RUN [BOOK RUN ...]
+ * The deepest stack use of each call over some books and runs: stack BOOK RUN [BOOK RUN ...], or the cases of
+ * one file: stack CASES
  * Each call runs in a thread of its own on a painted stack. Printed are the bytes used beyond a caller
  * that does nothing; the caller's frame with the result is among them. Status 1 if a call needs more than
  * rollback.h says.
@@ -88,43 +89,63 @@ static size_t depth(uint8_t *stack, void (*f)(void)) {
     return STACK - i;
 }
 
+static const struct {
+    const char *name;
+    void (*f)(void);
+    size_t stated;
+} calls[] = {
+    {"rollback_read", read_book, ROLLBACK_READ_STACK},
+    {"rollback_check", check, ROLLBACK_CHECK_STACK},
+    {"rollback_assemble", assemble, ROLLBACK_ASSEMBLE_STACK},
+    {"rollback_assemble_legs", assemble_legs, ROLLBACK_ASSEMBLE_LEGS_STACK},
+    {"rollback_write", write_book, ROLLBACK_WRITE_STACK},
+    {"rollback_ridge", ridge, ROLLBACK_RIDGE_STACK},
+};
+enum { CALLS = sizeof calls / sizeof calls[0] };
+static size_t deepest[CALLS];
+
+/* Every call on the book and run at hand. */
+static void measure(uint8_t *stack, size_t empty) {
+    size_t used, c;
+    device = rollback_read(book.bytes, book.length, table, ROLLBACK_TABLE_LEN, slots, ROLLBACK_SLOTS_LEN);
+    for (c = 0; c < CALLS; c++) {
+        /* Once here first, so that the linker's late binding is not counted. */
+        calls[c].f();
+        used = depth(stack, calls[c].f) - empty;
+        if (used > deepest[c])
+            deepest[c] = used;
+    }
+}
+
 int main(int argc, char **argv) {
-    static const struct {
-        const char *name;
-        void (*f)(void);
-        size_t stated;
-    } calls[] = {
-        {"rollback_read", read_book, ROLLBACK_READ_STACK},
-        {"rollback_check", check, ROLLBACK_CHECK_STACK},
-        {"rollback_assemble", assemble, ROLLBACK_ASSEMBLE_STACK},
-        {"rollback_assemble_legs", assemble_legs, ROLLBACK_ASSEMBLE_LEGS_STACK},
-        {"rollback_write", write_book, ROLLBACK_WRITE_STACK},
-        {"rollback_ridge", ridge, ROLLBACK_RIDGE_STACK},
-    };
-    enum { CALLS = sizeof calls / sizeof calls[0] };
-    size_t deepest[CALLS] = {0}, empty, used, c;
+    size_t empty, at = 0, c;
     void *stack;
     int a, status = 0;
-    if (argc < 3 || argc % 2 == 0) {
-        fprintf(stderr, "usage: %s BOOK RUN [BOOK RUN ...]\n", argv[0]);
+    if (argc != 2 && (argc < 3 || argc % 2 == 0)) {
+        fprintf(stderr, "usage: %s BOOK RUN [BOOK RUN ...], or %s CASES\n", argv[0], argv[0]);
         return 2;
     }
     if (posix_memalign(&stack, 4096, STACK) != 0)
         return 2;
     empty = depth(stack, nothing);
-    for (a = 1; a < argc; a += 2) {
+    for (a = 1; argc > 2 && a < argc; a += 2) {
         book = load(argv[a]);
         run = load(argv[a + 1]);
-        device = rollback_read(book.bytes, book.length, table, ROLLBACK_TABLE_LEN, slots, ROLLBACK_SLOTS_LEN);
-        for (c = 0; c < CALLS; c++) {
-            /* Once here first, so that the linker's late binding is not counted. */
-            calls[c].f();
-            used = depth(stack, calls[c].f) - empty;
-            if (used > deepest[c])
-                deepest[c] = used;
-        }
+        measure(stack, empty);
         free(book.bytes);
         free(run.bytes);
+    }
+    if (argc == 2) {
+        file cases = load(argv[1]);
+        pair p;
+        while (next_case(cases, &at, &p)) {
+            book.bytes = (uint8_t *)p.bytes;
+            book.length = p.book;
+            run.bytes = book.bytes + p.book;
+            run.length = p.run;
+            measure(stack, empty);
+        }
+        free(cases.bytes);
     }
     for (c = 0; c < CALLS; c++) {
         printf("%s %lu\n", calls[c].name, (unsigned long)deepest[c]);

@@ -2,7 +2,8 @@
 # The tests from outside, with no part of the gate: check.sh [CALLS]
 # The headers under every standard that gcc and clang have; the archive's names; every call between guard
 # pages and, where valgrind is present, under it, CALLS times each (100,000); the stack that rollback.h states;
-# the C and the Rust example on the same inputs; README's example. Its last line says it all.
+# the C and the Rust example on the same inputs; README's example and docs/FORMAT.md's bytes. Its last line
+# says it all.
 set -eu
 cd "$(dirname "$0")/.."
 calls=${1:-100000}
@@ -45,6 +46,13 @@ say "headers in C89 to C23 and C++98 to C++23 ($compilers standards)"
 
 part='version'
 grep -qx "version = \"$(sed -n 's/^#define ROLLBACK_VERSION "\(.*\)"$/\1/p' include/rollback.h)\"" rust/Cargo.toml
+
+# The bytes that docs/FORMAT.md takes apart are those of the files.
+part='docs/FORMAT.md'
+bytes_between() { sed -n "/^$1/,/^$2/p" docs/FORMAT.md | grep -o '`[0-9a-f][0-9a-f ]*`' | tr -d '` \n'; }
+bytes_of() { od -An -v -tx1 "$1" | tr -d ' \n'; }
+[ "$(bytes_between '### Q, ' '## A run')" = "$(bytes_of $data/book.bin)" ]
+[ "$(bytes_between 'Q5, ' 'A history')" = "$(bytes_of $data/run.bin)" ]
 
 part='names'
 c/names.sh "$archive"

@@ -115,9 +115,9 @@ if command -v cargo >/dev/null; then
         shift
         part="examples: $*"
         status=0; "$work/plan" "$@" >"$work/c.out" 2>"$work/c.err" || status=$?
-        [ $status -eq "$expected" ]
+        [ $status -eq "$expected" ] || { echo "C: status $status"; cat "$work/c.out" "$work/c.err"; exit 1; }
         status=0; $rust/plan "$@" >"$work/rust.out" 2>"$work/rust.err" || status=$?
-        [ $status -eq "$expected" ]
+        [ $status -eq "$expected" ] || { echo "Rust: status $status"; cat "$work/rust.out" "$work/rust.err"; exit 1; }
         cmp "$work/c.out" "$work/rust.out"
         # The words for a file that can't be read are the system's, and Rust adds its number.
         [ "$expected" -eq 2 ] || cmp "$work/c.err" "$work/rust.err"
@@ -144,11 +144,14 @@ if command -v cargo >/dev/null; then
     try 2 "$in" "$in/run.bin"
     say "C and Rust example alike on $tried inputs"
 
+    part='crate without std'
+    cargo build -q --release --manifest-path rust/Cargo.toml --no-default-features --lib
+
     part='README: the ridge example'
     $rust/ridge "$work/ridge" >"$work/ridge.txt"
     sed -n '/^The book: the ridge repeater/,/^```$/p' README.md | sed '$d' >"$work/readme.txt"
     diff "$work/readme.txt" "$work/ridge.txt"
-    say "README's example as printed"
+    say "crate without std; README's example as printed"
 else
     say 'no cargo'
 fi

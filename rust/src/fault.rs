@@ -6,7 +6,7 @@ use crate::{record_at, Record, NONE};
 
 /// Why a book or a run was refused: a variant for each code, in order, from 1 to 11.
 ///
-/// Printed, it says where and what: `item 1 (record at 129): the reverse commands ..  (code 8)`.
+/// Printed, it says where and what: `item 1 (record at 129): a field is outside its range (code 5)`.
 #[derive(Clone, Copy, Debug, PartialEq, Eq)]
 #[non_exhaustive]
 pub enum Fault {

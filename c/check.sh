@@ -72,7 +72,7 @@ say "between guard pages $(tail -n 1 "$work/out")"
 part='valgrind'
 if command -v valgrind >/dev/null; then
     valgrind -q --error-exitcode=9 "$work/guard" heap "$cases" "$calls" >"$work/out" || { cat "$work/out"; exit 1; }
-    say "under valgrind $(tail -n 1 "$work/out")"
+    say "under valgrind $(tail -n 1 "$work/out"), lent buffers uninitialised"
 else
     say 'no valgrind'
 fi

@@ -179,13 +179,12 @@ static lengths some_lengths(void) {
     return l;
 }
 
-static void count(size_t call, uint64_t code, int second) {
+static void count(size_t call, uint64_t code, int on_read_only) {
     calls_made++;
     if (code >= CODES)
         fail("gave an unknown code");
     met[call][code]++;
-    if (second && code != 0)
-        refusals_repeated++;
+    refusals_repeated += on_read_only != 0;
 }
 
 /* The reading of the book at hand. */
@@ -205,7 +204,7 @@ static rollback_reading reading(size_t call, lengths l, int at_end, const rollba
     now = call == 0 ? "rollback_read" : "rollback_check";
     r = (call == 0 ? rollback_read : rollback_check)(pointer(&book), book.bytes, pointer(&table), l.table,
                                                      pointer(&slots), l.slots);
-    count(call, r.code, second);
+    count(call, r.code, untouched);
     if (second && (r.code != first->code || r.place != first->place || r.n != first->n || r.m != first->m ||
                    r.items != first->items))
         fail("gave another answer the second time");
@@ -248,7 +247,7 @@ static rollback_assembly assembling(int as_structs, lengths l, int at_end, const
     else
         r = rollback_assemble(pointer(&book), book.bytes, pointer(&run), run.bytes, pointer(&table), l.table,
                               pointer(&slots), l.slots, pointer(&plan), l.plan, pointer(&legs), l.legs);
-    count(as_structs ? 3 : 2, r.code, second);
+    count(as_structs ? 3 : 2, r.code, refused);
     look(r.fewest, sizeof r.fewest);
     if (second && (r.code != first->code || r.place != first->place || r.commands != first->commands ||
                    r.legs != first->legs || memcmp(r.fewest, first->fewest, sizeof r.fewest) != 0))
@@ -271,14 +270,14 @@ static rollback_writing writing(uint64_t n, uint64_t m, uint64_t items, lengths 
                                 const rollback_writing *first) {
     static copy books;
     rollback_writing r;
-    int second = first != NULL;
+    int second = first != NULL, refused = second && first->code != 0;
     lend(&out, l.out, at_end, (uint8_t)word());
-    if (second && first->code != 0)
+    if (refused)
         allow(&out, PROT_READ);
     now = "rollback_write";
     r = rollback_write(n, m, items, pointer(&write_table), l.write_table, pointer(&write_slots), l.write_slots,
                        pointer(&out), l.out);
-    count(4, r.code, second);
+    count(4, r.code, refused);
     if (second && (r.code != first->code || r.place != first->place || r.length != first->length))
         fail("gave another answer the second time");
     if (r.code != 0 && r.length != 0)
@@ -460,7 +459,10 @@ int main(int argc, char **argv) {
     }
     if (missed != 0 && wanted >= 50000)
         fail("not every code was met");
-    printf("%lu calls, %lu refusals repeated\n", calls_made, refusals_repeated);
+    if (heap)
+        printf("%lu calls\n", calls_made);
+    else
+        printf("%lu calls, %lu of them refusals repeated on read-only buffers\n", calls_made, refusals_repeated);
     free(pairs);
     free(cases.bytes);
     return 0;

@@ -53,8 +53,8 @@ extern "C" {
 #define ROLLBACK_SLOT_LEN 34
 
 /*
- * Bytes of stack that a call needs at most, on x86-64: measured over the largest books (docs/SPEED.md) and
- * rounded up. c/check.sh measures again and holds them to these numbers.
+ * Bytes of stack for a call on x86-64: the most that was measured, over the largest books (docs/SPEED.md),
+ * rounded up; no proof has them. c/check.sh measures again and fails above these numbers.
  */
 #define ROLLBACK_READ_STACK 512
 #define ROLLBACK_CHECK_STACK 1024

@@ -1,4 +1,4 @@
-/* Reads whole files, for the programs beside it. */
+/* Reads whole files, and files of cases, for the programs beside it. */
 #include <stdint.h>
 #include <stdio.h>
 #include <stdlib.h>
@@ -9,7 +9,7 @@ typedef struct {
 } file;
 
 /* The whole file, or exit with status 2. */
-static file load(const char *name) {
+static inline file load(const char *name) {
     file f = {NULL, 0};
     size_t room = 0, got = 1;
     FILE *in = fopen(name, "rb");
@@ -28,4 +28,27 @@ static file load(const char *name) {
     }
     fclose(in);
     return f;
+}
+
+/* A book and a run, one after the other. */
+typedef struct {
+    const uint8_t *bytes;
+    size_t book, run;
+} pair;
+
+/*
+ * The cases of a file: before each book and run their two-byte lengths. Takes the place where the next one
+ * begins and moves it on; 0 at the end.
+ */
+static inline int next_case(file f, size_t *at, pair *p) {
+    const uint8_t *header = f.bytes + *at;
+    if (f.length - *at < 4)
+        return 0;
+    p->book = header[0] + 256u * header[1];
+    p->run = header[2] + 256u * header[3];
+    p->bytes = header + 4;
+    if (f.length - *at - 4 < p->book + p->run)
+        return 0;
+    *at += 4 + p->book + p->run;
+    return 1;
 }

@@ -1,38 +1,76 @@
 /*
  * Prints the plan that undoes a run: plan BOOK RUN
- * Status 0 if there is one, 1 if the library refuses, 2 on bad usage or a file that can't be read.
+ * Status 0 if there is one, 1 if the library refuses, 2 on bad usage or a file that can't be read or
+ * written. rust/examples/plan.rs does the same in Rust.
  */
 #include "load.h"
 #include "rollback.h"
+#include "rollback_messages.h"
 
 #include <inttypes.h>
+#include <string.h>
+
+/* Commands in a row, or "nothing". */
+static void print_row(const uint8_t *commands, uint64_t count) {
+    uint64_t i;
+    for (i = 0; i < count; i++)
+        printf(" %u", commands[i]);
+    printf(count == 0 ? " nothing\n" : "\n");
+}
+
+/* What is wrong, and in which file and record. */
+static void print_refusal(char **names, file book, const rollback_assembly *r) {
+    size_t point;
+    if (r->code >= ROLLBACK_E_CUT_OFF && r->code <= ROLLBACK_E_NOT_ACCEPTED) {
+        rollback_record record = rollback_record_at(book.bytes, book.length, r->place);
+        fprintf(stderr, "%s: %s %" PRIu64 " (%s%" PRIu64 "): ", names[1], record.name, record.number,
+                strcmp(record.name, "record") == 0 ? "at " : "record at ", r->place);
+    } else {
+        fprintf(stderr, "%s: ", names[2]);
+    }
+    fprintf(stderr, "%s (code %" PRIu64 ")", rollback_message(r->code), r->code);
+    if (r->code == ROLLBACK_E_NO_CHAIN) {
+        fprintf(stderr, "; there are chains from points");
+        for (point = 0; point < ROLLBACK_POINTS_LEN; point++)
+            if (r->fewest[point] != ROLLBACK_NONE)
+                fprintf(stderr, " %lu", (unsigned long)point);
+    }
+    fprintf(stderr, "\n");
+}
 
 int main(int argc, char **argv) {
-    static uint64_t table[ROLLBACK_TABLE];
-    static uint8_t slots[ROLLBACK_SLOTS], plan[ROLLBACK_PLAN];
-    static rollback_leg legs[ROLLBACK_LEG_STRUCTS];
+    static uint64_t table[ROLLBACK_TABLE_LEN];
+    static uint8_t slots[ROLLBACK_SLOTS_LEN], plan[ROLLBACK_PLAN_LEN];
+    static rollback_leg legs[ROLLBACK_LEG_STRUCTS_LEN];
     file book, run;
     rollback_assembly r;
-    uint64_t i;
+    uint64_t i, sent = 0;
     if (argc != 3) {
-        fprintf(stderr, "usage: %s BOOK RUN\n", argv[0]);
+        fprintf(stderr, "usage: plan BOOK RUN\n");
         return 2;
     }
     book = load(argv[1]);
     run = load(argv[2]);
-    r = rollback_assemble_legs(book.bytes, book.length, run.bytes, run.length, table, ROLLBACK_TABLE,
-                               slots, ROLLBACK_SLOTS, plan, ROLLBACK_PLAN, legs, ROLLBACK_LEG_STRUCTS);
-    printf("code %" PRIu64 ", place %" PRIu64 ", commands %" PRIu64 ", legs %" PRIu64 "\n",
-           r.code, r.place, r.commands, r.legs);
-    if (r.code == ROLLBACK_DONE) {
-        printf("plan");
-        for (i = 0; i < r.commands; i++)
-            printf(" %u", plan[i]);
-        printf("\n");
-        for (i = 0; i < r.legs; i++)
-            printf("item %u from point %u to %u\n", legs[i].item, legs[i].upper, legs[i].lower);
+    r = rollback_assemble_legs(book.bytes, book.length, run.bytes, run.length, table, ROLLBACK_TABLE_LEN,
+                               slots, ROLLBACK_SLOTS_LEN, plan, ROLLBACK_PLAN_LEN,
+                               legs, ROLLBACK_LEG_STRUCTS_LEN);
+    if (r.code == ROLLBACK_E_DONE) {
+        printf("send");
+        print_row(plan, r.commands);
+        for (i = 0; i < r.legs; i++) {
+            uint8_t count = slots[ROLLBACK_SLOT_LEN * legs[i].item + 1];
+            printf("item %u from point %u to %u:", legs[i].item, legs[i].upper, legs[i].lower);
+            print_row(plan + sent, count);
+            sent += count;
+        }
+    } else {
+        print_refusal(argv, book, &r);
     }
     free(book.bytes);
     free(run.bytes);
-    return r.code == ROLLBACK_DONE ? 0 : 1;
+    if (fflush(stdout) != 0 || ferror(stdout)) {
+        perror("standard output");
+        return 2;
+    }
+    return r.code == ROLLBACK_E_DONE ? 0 : 1;
 }

@@ -1,7 +1,9 @@
 /*
- * The deepest stack use of each call over some books and runs: stack BOOK RUN [BOOK RUN ...]
+ * The deepest stack use of each call over some books and runs: stack BOOK RUN [BOOK RUN ...], or the cases of
+ * one file: stack CASES
  * Each call runs in a thread of its own on a painted stack. Printed are the bytes used beyond a caller
- * that does nothing; the caller's frame with the result is among them.
+ * that does nothing; the caller's frame with the result is among them. Status 1 if a call needs more than
+ * rollback.h says.
  */
 #define _XOPEN_SOURCE 700
 #include "load.h"
@@ -12,9 +14,9 @@
 
 enum { STACK = 1 << 20, GAP = 1 << 16, PAINT = 0xA5 };
 
-static uint64_t table[ROLLBACK_TABLE];
-static uint8_t slots[ROLLBACK_SLOTS], plan[ROLLBACK_PLAN], legs[ROLLBACK_LEGS], out[ROLLBACK_BOOK_MAX];
-static rollback_leg structs[ROLLBACK_LEG_STRUCTS];
+static uint64_t table[ROLLBACK_TABLE_LEN];
+static uint8_t slots[ROLLBACK_SLOTS_LEN], plan[ROLLBACK_PLAN_LEN], legs[ROLLBACK_LEGS_LEN], out[ROLLBACK_BOOK_LEN];
+static rollback_leg structs[ROLLBACK_LEG_STRUCTS_LEN];
 static file book, run;
 static rollback_reading device;
 static volatile uint64_t code;
@@ -24,31 +26,31 @@ static void nothing(void) {
 }
 
 static void read_book(void) {
-    rollback_reading r = rollback_read(book.bytes, book.length, table, ROLLBACK_TABLE, slots, ROLLBACK_SLOTS);
+    rollback_reading r = rollback_read(book.bytes, book.length, table, ROLLBACK_TABLE_LEN, slots, ROLLBACK_SLOTS_LEN);
     code = r.code;
 }
 
 static void check(void) {
-    rollback_reading r = rollback_check(book.bytes, book.length, table, ROLLBACK_TABLE, slots, ROLLBACK_SLOTS);
+    rollback_reading r = rollback_check(book.bytes, book.length, table, ROLLBACK_TABLE_LEN, slots, ROLLBACK_SLOTS_LEN);
     code = r.code;
 }
 
 static void assemble(void) {
-    rollback_assembly r = rollback_assemble(book.bytes, book.length, run.bytes, run.length, table, ROLLBACK_TABLE,
-                                            slots, ROLLBACK_SLOTS, plan, ROLLBACK_PLAN, legs, ROLLBACK_LEGS);
+    rollback_assembly r = rollback_assemble(book.bytes, book.length, run.bytes, run.length, table, ROLLBACK_TABLE_LEN,
+                                            slots, ROLLBACK_SLOTS_LEN, plan, ROLLBACK_PLAN_LEN, legs, ROLLBACK_LEGS_LEN);
     code = r.code;
 }
 
 static void assemble_legs(void) {
     rollback_assembly r =
-        rollback_assemble_legs(book.bytes, book.length, run.bytes, run.length, table, ROLLBACK_TABLE,
-                               slots, ROLLBACK_SLOTS, plan, ROLLBACK_PLAN, structs, ROLLBACK_LEG_STRUCTS);
+        rollback_assemble_legs(book.bytes, book.length, run.bytes, run.length, table, ROLLBACK_TABLE_LEN,
+                               slots, ROLLBACK_SLOTS_LEN, plan, ROLLBACK_PLAN_LEN, structs, ROLLBACK_LEG_STRUCTS_LEN);
     code = r.code;
 }
 
 static void write_book(void) {
-    rollback_writing r = rollback_write(device.n, device.m, device.items, table, ROLLBACK_TABLE,
-                                        slots, ROLLBACK_SLOTS, out, ROLLBACK_BOOK_MAX);
+    rollback_writing r = rollback_write(device.n, device.m, device.items, table, ROLLBACK_TABLE_LEN,
+                                        slots, ROLLBACK_SLOTS_LEN, out, ROLLBACK_BOOK_LEN);
     code = r.code;
 }
 
@@ -87,42 +89,72 @@ static size_t depth(uint8_t *stack, void (*f)(void)) {
     return STACK - i;
 }
 
+static const struct {
+    const char *name;
+    void (*f)(void);
+    size_t stated;
+} calls[] = {
+    {"rollback_read", read_book, ROLLBACK_READ_STACK},
+    {"rollback_check", check, ROLLBACK_CHECK_STACK},
+    {"rollback_assemble", assemble, ROLLBACK_ASSEMBLE_STACK},
+    {"rollback_assemble_legs", assemble_legs, ROLLBACK_ASSEMBLE_LEGS_STACK},
+    {"rollback_write", write_book, ROLLBACK_WRITE_STACK},
+    {"rollback_ridge", ridge, ROLLBACK_RIDGE_STACK},
+};
+enum { CALLS = sizeof calls / sizeof calls[0] };
+static size_t deepest[CALLS];
+
+/* Every call on the book and run at hand. */
+static void measure(uint8_t *stack, size_t empty) {
+    size_t used, c;
+    device = rollback_read(book.bytes, book.length, table, ROLLBACK_TABLE_LEN, slots, ROLLBACK_SLOTS_LEN);
+    for (c = 0; c < CALLS; c++) {
+        /* Once here first, so that the linker's late binding is not counted. */
+        calls[c].f();
+        used = depth(stack, calls[c].f) - empty;
+        if (used > deepest[c])
+            deepest[c] = used;
+    }
+}
+
 int main(int argc, char **argv) {
-    static const struct {
-        const char *name;
-        void (*f)(void);
-    } calls[] = {
-        {"rollback_read", read_book}, {"rollback_check", check},
-        {"rollback_assemble", assemble}, {"rollback_assemble_legs", assemble_legs},
-        {"rollback_write", write_book}, {"rollback_ridge", ridge},
-    };
-    enum { CALLS = sizeof calls / sizeof calls[0] };
-    size_t deepest[CALLS] = {0}, empty, used, c;
+    size_t empty, at = 0, c;
     void *stack;
-    int a;
-    if (argc < 3 || argc % 2 == 0) {
-        fprintf(stderr, "usage: %s BOOK RUN [BOOK RUN ...]\n", argv[0]);
+    int a, status = 0;
+    if (argc != 2 && (argc < 3 || argc % 2 == 0)) {
+        fprintf(stderr, "usage: %s BOOK RUN [BOOK RUN ...], or %s CASES\n", argv[0], argv[0]);
         return 2;
     }
     if (posix_memalign(&stack, 4096, STACK) != 0)
         return 2;
     empty = depth(stack, nothing);
-    for (a = 1; a < argc; a += 2) {
+    for (a = 1; argc > 2 && a < argc; a += 2) {
         book = load(argv[a]);
         run = load(argv[a + 1]);
-        device = rollback_read(book.bytes, book.length, table, ROLLBACK_TABLE, slots, ROLLBACK_SLOTS);
-        for (c = 0; c < CALLS; c++) {
-            /* Once here first, so that the linker's late binding is not counted. */
-            calls[c].f();
-            used = depth(stack, calls[c].f) - empty;
-            if (used > deepest[c])
-                deepest[c] = used;
-        }
+        measure(stack, empty);
         free(book.bytes);
         free(run.bytes);
     }
-    for (c = 0; c < CALLS; c++)
+    if (argc == 2) {
+        file cases = load(argv[1]);
+        pair p;
+        while (next_case(cases, &at, &p)) {
+            book.bytes = (uint8_t *)p.bytes;
+            book.length = p.book;
+            run.bytes = book.bytes + p.book;
+            run.length = p.run;
+            measure(stack, empty);
+        }
+        free(cases.bytes);
+    }
+    for (c = 0; c < CALLS; c++) {
         printf("%s %lu\n", calls[c].name, (unsigned long)deepest[c]);
+        if (deepest[c] > calls[c].stated) {
+            fprintf(stderr, "%s: more than the %lu bytes that rollback.h says\n", calls[c].name,
+                    (unsigned long)calls[c].stated);
+            status = 1;
+        }
+    }
     free(stack);
-    return 0;
+    return status;
 }

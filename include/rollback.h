@@ -1,18 +1,23 @@
 /*
  * Roll-back plans for repeaters: the calls of libplanner.a.
  *
- * A book holds a device's transition table and its items, a run what was sent and heard; document 01
- * fixes the bytes of both and every answer. That a call gives this answer, and leaves in each buffer
- * what is said here, is proved of its source for all arguments. What no proof covers:
+ * A book holds a device's transition table and its items, a run what was sent and heard. docs/FORMAT.md
+ * has the bytes of both; rollback_messages.h turns codes and places into words.
+ *
+ * Proved of the source, for all bytes, numbers and lengths: the answer, and the contents of each buffer
+ * afterwards, are those said here. A call asks of its caller, and no proof covers:
  *
  * - every length is true: so many elements are there to be read, and to be written where not const;
  * - a buffer that a call writes overlaps no other of that call, and nobody else uses it meanwhile;
  * - table is aligned as uint64_t is;
- * - this header fits the archive, and the compiler's back end, the linker, memcpy and memset are right.
+ * - there is as much stack as said below.
  *
- * Lengths count elements. Where a length is 0 the pointer may be null. Book and run may have any
- * length. Lent buffers may be longer than stated; what lies past the stated length is neither read nor
- * written. No call keeps anything: on buffers of their own, calls may run at the same time.
+ * Nor does a proof cover that this header fits the archive, and that the compiler's back end, the linker,
+ * memcpy and memset are right. c/check.sh and the tests in rust/ try all of that.
+ *
+ * Lengths count elements. Where a length is 0 the pointer may be null. Book and run may have any length.
+ * Lent buffers may be longer than stated: what lies past the stated length stays as it was, and no answer
+ * depends on it. No call keeps anything: on buffers of their own, calls may run at the same time.
  */
 #ifndef ROLLBACK_H
 #define ROLLBACK_H
@@ -24,19 +29,39 @@
 extern "C" {
 #endif
 
-/* The least lengths of lent buffers, in elements. A shorter one is refused with code 1. */
-#define ROLLBACK_TABLE 2048      /* uint64_t: outcomes of state s, command c at s * m + c */
-#define ROLLBACK_SLOTS 2176      /* bytes: 64 slots of 34, see below */
-#define ROLLBACK_PLAN 256        /* bytes: a command each */
-#define ROLLBACK_LEGS 96         /* bytes: 32 legs of 3, item, upper point, lower point */
-#define ROLLBACK_LEG_STRUCTS 32  /* rollback_leg */
-#define ROLLBACK_BOOK_MAX 31110  /* bytes of the largest book; what writing's output must hold */
+/* Of this header; the Rust crate has the same. */
+#define ROLLBACK_VERSION "0.2.0"
+#define ROLLBACK_VERSION_MAJOR 0
+#define ROLLBACK_VERSION_MINOR 2
+#define ROLLBACK_VERSION_PATCH 0
 
+/* The least lengths of lent buffers, in elements. A shorter one is refused with code 1. */
+#define ROLLBACK_TABLE_LEN 2048     /* uint64_t: outcomes of state s, command c at s * m + c */
+#define ROLLBACK_SLOTS_LEN 2176     /* bytes: 64 slots of 34, see below */
+#define ROLLBACK_PLAN_LEN 256       /* bytes: a command each */
+#define ROLLBACK_LEGS_LEN 96        /* bytes: 32 legs of 3, item, upper point, lower point */
+#define ROLLBACK_LEG_STRUCTS_LEN 32 /* rollback_leg */
+#define ROLLBACK_BOOK_LEN 31110     /* bytes of the largest book; what writing's output must hold */
+
+/* Other lengths. */
+#define ROLLBACK_RUN_LEN 301   /* bytes of the largest run */
+#define ROLLBACK_POINTS_LEN 33 /* points of the largest run, 0 to 32 */
 /*
  * A slot: k, r, 8 forward commands, 8 reverse commands, 8-byte masks phi and psi, little-endian.
  * Of the commands the first k and r count; the others are 0.
  */
-#define ROLLBACK_SLOT 34
+#define ROLLBACK_SLOT_LEN 34
+
+/*
+ * Bytes of stack for a call on x86-64: the most that was measured, over the largest books (docs/SPEED.md),
+ * rounded up; no proof has them. c/check.sh measures again and fails above these numbers.
+ */
+#define ROLLBACK_READ_STACK 512
+#define ROLLBACK_CHECK_STACK 1024
+#define ROLLBACK_ASSEMBLE_STACK 3072
+#define ROLLBACK_ASSEMBLE_LEGS_STACK 3072
+#define ROLLBACK_WRITE_STACK 512
+#define ROLLBACK_RIDGE_STACK 512
 
 /* In fewest: no chain from that point. */
 #define ROLLBACK_NONE 65535
@@ -47,18 +72,18 @@ extern "C" {
  * 2, 3, 7, 4, 5, 6, the first faulty record deciding; then 8, 9, 10, 11.
  */
 enum {
-    ROLLBACK_DONE = 0,
-    ROLLBACK_SHORT_BUFFER = 1,   /* a lent buffer is shorter than stated */
-    ROLLBACK_CUT_OFF = 2,        /* under 4 bytes of a record are left, or its body is cut off; an empty book */
-    ROLLBACK_KIND = 3,           /* a kind unknown in a book, or out of its order */
-    ROLLBACK_LENGTH = 4,         /* a body's length is not that of its kind */
-    ROLLBACK_FIELD = 5,          /* a field is outside its range */
-    ROLLBACK_NOT_RISING = 6,     /* a move doesn't rise */
-    ROLLBACK_TOO_MANY_ITEMS = 7, /* a 65th item */
-    ROLLBACK_NOT_ACCEPTED = 8,   /* an item is not accepted; the first such one */
-    ROLLBACK_RUN = 9,            /* the run isn't exactly one record, or a command or mask is outside m or n */
-    ROLLBACK_NO_HISTORY = 10,    /* nothing can have happened that fits the run */
-    ROLLBACK_NO_CHAIN = 11       /* no items lead from the run's end back to its start */
+    ROLLBACK_E_DONE = 0,
+    ROLLBACK_E_SHORT_BUFFER = 1,   /* a lent buffer is shorter than stated */
+    ROLLBACK_E_CUT_OFF = 2,        /* under 4 bytes of a record are left, or its body is cut off; an empty book */
+    ROLLBACK_E_KIND = 3,           /* a kind unknown in a book, or out of its order */
+    ROLLBACK_E_LENGTH = 4,         /* a body's length is not that of its kind */
+    ROLLBACK_E_FIELD = 5,          /* a field is outside its range */
+    ROLLBACK_E_NOT_RISING = 6,     /* a move doesn't rise */
+    ROLLBACK_E_TOO_MANY_ITEMS = 7, /* a 65th item */
+    ROLLBACK_E_NOT_ACCEPTED = 8,   /* an item is not accepted; the first such one */
+    ROLLBACK_E_RUN = 9,            /* the run isn't exactly one record, or a command or mask is outside m or n */
+    ROLLBACK_E_NO_HISTORY = 10,    /* nothing can have happened that fits the run */
+    ROLLBACK_E_NO_CHAIN = 11       /* no items lead from the run's end back to its start */
 };
 
 /* From reading and checking: n states, m commands, the number of items; all three 0 on a refusal. */
@@ -73,7 +98,7 @@ typedef struct {
  */
 typedef struct {
     uint64_t code, place, commands, legs;
-    uint16_t fewest[33];
+    uint16_t fewest[ROLLBACK_POINTS_LEN];
 } rollback_assembly;
 
 /* From writing: the book's length in bytes, 0 on a refusal. */

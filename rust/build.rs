@@ -1,4 +1,4 @@
-//! Finds libplanner.a in the folder that ROLLBACK_LIB names, or where `rt staticlib planner` puts it.
+//! Finds libplanner.a in the folder that `ROLLBACK_LIB` names, or where `rt staticlib planner` puts it.
 
 use std::env;
 use std::path::{Path, PathBuf};

@@ -3,7 +3,7 @@
 
 use std::hint::black_box;
 use std::path::Path;
-use std::process::Command;
+use std::process::{Command, Stdio};
 use std::time::{Duration, Instant};
 use std::{env, fs, process};
 
@@ -35,8 +35,8 @@ struct Lent {
 
 impl Lent {
     fn new(book: Vec<u8>, run: Vec<u8>) -> Lent {
-        let mut table = vec![0; calls::TABLE];
-        let mut slots = vec![0; calls::SLOTS];
+        let mut table = vec![0; calls::TABLE_LEN];
+        let mut slots = vec![0; calls::SLOTS_LEN];
         let r = calls::check(&book, &mut table, &mut slots);
         assert_eq!(r.code, 0, "the book is accepted");
         Lent {
@@ -44,18 +44,11 @@ impl Lent {
             run,
             table,
             slots,
-            plan: vec![0; calls::PLAN],
-            legs: vec![0; calls::LEGS],
-            structs: vec![
-                calls::Leg {
-                    item: 0,
-                    upper: 0,
-                    lower: 0
-                };
-                calls::LEG_STRUCTS
-            ],
-            plain_structs: vec![Default::default(); calls::LEG_STRUCTS],
-            out: vec![0; calls::BOOK_MAX],
+            plan: vec![0; calls::PLAN_LEN],
+            legs: vec![0; calls::LEGS_LEN],
+            structs: vec![calls::Leg::default(); calls::LEG_STRUCTS_LEN],
+            plain_structs: vec![rollback_plain::Leg::default(); calls::LEG_STRUCTS_LEN],
+            out: vec![0; calls::BOOK_LEN],
             device: [r.n, r.m, r.items],
         }
     }
@@ -228,7 +221,7 @@ fn stack(books: &[(&str, Vec<u8>, Vec<u8>)]) {
             run.arg(file);
         }
     }
-    let output = run.output().unwrap();
+    let output = run.stderr(Stdio::inherit()).output().unwrap();
     fs::remove_dir_all(&folder).unwrap();
     assert!(output.status.success(), "c/stack.c runs");
     println!("\n## Deepest stack use of each call over these books, in bytes\n");

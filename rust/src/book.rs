@@ -1,5 +1,9 @@
+use core::ops::Deref;
+use std::vec;
+use std::vec::Vec;
+
 use crate::calls::{self, Reading};
-use crate::Fault;
+use crate::{plan, size, Fault, Plan, WriteFault, NONE};
 
 /// An item: if the forward commands led from a state in psi to one in phi, the others reverse them.
 #[derive(Clone, Copy, Debug, PartialEq, Eq)]
@@ -16,10 +20,10 @@ pub struct Item<'a> {
 
 impl Item<'_> {
     /// The item's slot. Too many commands leave a count that no item has.
-    fn slot(&self) -> [u8; calls::SLOT] {
-        let mut slot = [0; calls::SLOT];
-        slot[0] = self.forward.len().min(255) as u8;
-        slot[1] = self.reverse.len().min(255) as u8;
+    fn slot(&self) -> [u8; calls::SLOT_LEN] {
+        let mut slot = [0; calls::SLOT_LEN];
+        slot[0] = u8::try_from(self.forward.len()).unwrap_or(u8::MAX);
+        slot[1] = u8::try_from(self.reverse.len()).unwrap_or(u8::MAX);
         for (to, from) in slot[2..10].iter_mut().zip(self.forward) {
             *to = *from;
         }
@@ -30,11 +34,28 @@ impl Item<'_> {
         slot[26..34].copy_from_slice(&self.psi.to_le_bytes());
         slot
     }
+
+    /// The item of a slot that reading has filled.
+    fn of(slot: &[u8]) -> Item<'_> {
+        let mask = |at| {
+            slot[at..]
+                .first_chunk()
+                .map_or(0, |bytes| u64::from_le_bytes(*bytes))
+        };
+        Item {
+            forward: &slot[2..][..usize::from(slot[0]).min(8)],
+            reverse: &slot[10..][..usize::from(slot[1]).min(8)],
+            phi: mask(18),
+            psi: mask(26),
+        }
+    }
 }
 
-/// A book that was read: what the device's commands do in its states, and the items.
-#[derive(Clone, Debug)]
+/// A book that was read: what the device's commands do in its states, and the items. Whether these
+/// are accepted is not known: see [`CheckedBook`].
+#[derive(Clone, Debug, PartialEq, Eq)]
 pub struct Book {
+    bytes: Vec<u8>,
     n: usize,
     m: usize,
     items: usize,
@@ -44,73 +65,110 @@ pub struct Book {
 
 impl Book {
     /// Reads a book. Its items are not judged.
+    ///
+    /// # Errors
+    /// Codes 2 to 7: the bytes are no book.
     pub fn read(bytes: &[u8]) -> Result<Book, Fault> {
         Book::by(calls::read, bytes)
     }
 
     /// Reads a book and checks that every item is accepted.
     ///
+    /// # Errors
+    /// Codes 2 to 7: the bytes are no book. Code 8: an item is not accepted.
+    ///
     /// ```
     /// use rollback::{Book, Fault};
     ///
-    /// assert_eq!(Book::check(&[]).unwrap_err(), Fault::CutOff { place: 0 });
+    /// let fault = Book::check(&[]).unwrap_err();
+    /// assert_eq!(fault.to_string(), "record 0 (at 0): the book ends before this record does (code 2)");
     /// let book = Book::check(&[2, 0, 1, 0, 3, 2])?;
     /// assert_eq!((book.states(), book.commands(), book.items().count()), (3, 2, 0));
     /// # Ok::<(), Fault>(())
     /// ```
-    pub fn check(bytes: &[u8]) -> Result<Book, Fault> {
-        Book::by(calls::check, bytes)
+    pub fn check(bytes: &[u8]) -> Result<CheckedBook, Fault> {
+        Book::by(calls::check, bytes).map(CheckedBook)
     }
 
     fn by(call: fn(&[u8], &mut [u64], &mut [u8]) -> Reading, bytes: &[u8]) -> Result<Book, Fault> {
-        let mut table = vec![0; calls::TABLE];
-        let mut slots = vec![0; calls::SLOTS];
+        let mut table = vec![0; calls::TABLE_LEN];
+        let mut slots = vec![0; calls::SLOTS_LEN];
         let r = call(bytes, &mut table, &mut slots);
         if r.code != 0 {
-            return Err(Fault::of(r.code, r.place, [crate::NONE; 33]));
+            return Err(Fault::new(
+                r.code,
+                r.place,
+                [NONE; calls::POINTS_LEN],
+                bytes,
+            ));
         }
         Ok(Book {
-            n: r.n as usize,
-            m: r.m as usize,
-            items: r.items as usize,
+            bytes: bytes.to_vec(),
+            n: size(r.n),
+            m: size(r.m),
+            items: size(r.items),
             table,
             slots,
         })
     }
 
     /// The number of states.
+    #[must_use]
     pub fn states(&self) -> usize {
         self.n
     }
 
     /// The number of commands.
+    #[must_use]
     pub fn commands(&self) -> usize {
         self.m
     }
 
     /// Where a command can lead from a state, as a set; 0 where it can't be carried out. None for a
     /// state or command that the device doesn't have.
+    #[must_use]
     pub fn outcomes(&self, state: usize, command: usize) -> Option<u64> {
-        (state < self.n && command < self.m).then(|| self.table[state * self.m + command])
+        if state < self.n && command < self.m {
+            self.table.get(state * self.m + command).copied()
+        } else {
+            None
+        }
     }
 
     /// The items, in the book's order.
     pub fn items(&self) -> impl ExactSizeIterator<Item = Item<'_>> {
         self.slots
-            .chunks_exact(calls::SLOT)
+            .chunks_exact(calls::SLOT_LEN)
             .take(self.items)
-            .map(|slot| Item {
-                forward: &slot[2..2 + slot[0] as usize],
-                reverse: &slot[10..10 + slot[1] as usize],
-                phi: u64::from_le_bytes(slot[18..26].try_into().unwrap()),
-                psi: u64::from_le_bytes(slot[26..34].try_into().unwrap()),
-            })
+            .map(Item::of)
     }
 
-    /// The book's bytes: those that were read.
-    pub fn to_bytes(&self) -> Vec<u8> {
-        written(self.n, self.m, self.items, &self.table, &self.slots)
-            .expect("a book that was read can be written")
+    /// The bytes that were read.
+    #[must_use]
+    pub fn bytes(&self) -> &[u8] {
+        &self.bytes
+    }
+}
+
+/// A book in which every item is accepted. Only [`Book::check`] makes one; it is used as a [`Book`].
+#[derive(Clone, Debug, PartialEq, Eq)]
+pub struct CheckedBook(Book);
+
+impl CheckedBook {
+    /// The plan that undoes a run, as [`plan`] gives it.
+    ///
+    /// # Errors
+    /// Codes 9 to 11: the bytes are no run of this device, or nothing undoes it.
+    pub fn plan(&self, run: &[u8]) -> Result<Plan, Fault> {
+        plan(self.bytes(), run)
+    }
+}
+
+impl Deref for CheckedBook {
+    type Target = Book;
+
+    fn deref(&self) -> &Book {
+        &self.0
     }
 }
 
@@ -119,40 +177,34 @@ impl Book {
 /// Outcomes not given are empty sets, those from n × m on are ignored. Whether items are accepted
 /// is not judged: see [`Book::check`].
 ///
+/// # Errors
+/// n, m, an outcome or an item is outside the limits of a book.
+///
 /// ```
-/// use rollback::{Book, Fault, Item};
+/// use rollback::{Book, Item, WriteFault};
 ///
 /// let item = Item { forward: &[0], reverse: &[], phi: 1, psi: 1 };
 /// let bytes = rollback::write(1, 1, &[1], &[item])?;
 /// assert_eq!(Book::read(&bytes)?.items().next(), Some(item));
-/// assert_eq!(Book::read(&bytes)?.to_bytes(), bytes);
-/// assert_eq!(rollback::write(1, 1, &[2], &[]), Err(Fault::Field { place: 0 }));
-/// # Ok::<(), Fault>(())
+/// let fault = WriteFault::Outcomes { state: 0, command: 0 };
+/// assert_eq!(rollback::write(1, 1, &[2], &[]), Err(fault));
+/// # Ok::<(), Box<dyn std::error::Error>>(())
 /// ```
-pub fn write(n: usize, m: usize, outcomes: &[u64], items: &[Item]) -> Result<Vec<u8>, Fault> {
-    let mut table = [0; calls::TABLE];
-    let mut slots = [0; calls::SLOTS];
+pub fn write(n: usize, m: usize, outcomes: &[u64], items: &[Item]) -> Result<Vec<u8>, WriteFault> {
+    let mut table = vec![0; calls::TABLE_LEN];
+    let mut slots = vec![0; calls::SLOTS_LEN];
+    let mut out = vec![0; calls::BOOK_LEN];
     for (to, from) in table.iter_mut().zip(outcomes) {
         *to = *from;
     }
-    for (to, from) in slots.chunks_exact_mut(calls::SLOT).zip(items) {
+    for (to, from) in slots.chunks_exact_mut(calls::SLOT_LEN).zip(items) {
         to.copy_from_slice(&from.slot());
     }
-    written(n, m, items.len(), &table, &slots)
-}
-
-fn written(
-    n: usize,
-    m: usize,
-    items: usize,
-    table: &[u64],
-    slots: &[u8],
-) -> Result<Vec<u8>, Fault> {
-    let mut out = vec![0; calls::BOOK_MAX];
-    let r = calls::write(n as u64, m as u64, items as u64, table, slots, &mut out);
+    let (n, m) = (n as u64, m as u64);
+    let r = calls::write(n, m, items.len() as u64, &table, &slots, &mut out);
     if r.code != 0 {
-        return Err(Fault::of(r.code, r.place, [crate::NONE; 33]));
+        return Err(WriteFault::new(r.code, r.place, n, m, &table));
     }
-    out.truncate(r.length as usize);
+    out.truncate(size(r.length));
     Ok(out)
 }

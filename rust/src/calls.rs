@@ -1,22 +1,29 @@
 //! The calls of `libplanner.a`, with numbers and slices of any length.
 //!
-//! `include/rollback.h` says of each what it takes, its codes, and what it leaves in each buffer.
+//! `include/rollback.h` says of each what it takes, its codes, what it leaves in each buffer and how
+//! much stack it needs. [`Fault::new`](crate::Fault::new) and
+//! [`WriteFault::new`](crate::WriteFault::new) put a code into words. Needs no `std`; the archive
+//! takes `memcpy` and `memset` from whoever links it.
 #![allow(unsafe_code)]
 
 /// Entries of a lent table.
-pub const TABLE: usize = 2_048;
+pub const TABLE_LEN: usize = 2_048;
 /// Bytes of lent slots.
-pub const SLOTS: usize = 2_176;
+pub const SLOTS_LEN: usize = 2_176;
 /// Bytes of a slot.
-pub const SLOT: usize = 34;
+pub const SLOT_LEN: usize = 34;
 /// Bytes of a lent plan.
-pub const PLAN: usize = 256;
+pub const PLAN_LEN: usize = 256;
 /// Bytes of lent legs.
-pub const LEGS: usize = 96;
+pub const LEGS_LEN: usize = 96;
 /// Lent legs as structs.
-pub const LEG_STRUCTS: usize = 32;
+pub const LEG_STRUCTS_LEN: usize = 32;
 /// Bytes of the largest book, and of writing's output.
-pub const BOOK_MAX: usize = 31_110;
+pub const BOOK_LEN: usize = 31_110;
+/// Bytes of the largest run.
+pub const RUN_LEN: usize = 301;
+/// Points of the largest run.
+pub const POINTS_LEN: usize = 33;
 
 /// What reading and checking answer.
 #[repr(C)]
@@ -47,7 +54,7 @@ pub struct Assembly {
     /// Legs of the plan.
     pub legs: u64,
     /// The fewest commands from each point down to 0, or [`NONE`](crate::NONE).
-    pub fewest: [u16; 33],
+    pub fewest: [u16; POINTS_LEN],
 }
 
 /// What writing answers.
@@ -76,7 +83,7 @@ pub struct Lookup {
 
 /// One leg of a plan: an item, and the points of the run between which it leads back.
 #[repr(C)]
-#[derive(Clone, Copy, Debug, PartialEq, Eq)]
+#[derive(Clone, Copy, Debug, Default, PartialEq, Eq)]
 pub struct Leg {
     /// The item's number.
     pub item: u8,
@@ -133,6 +140,7 @@ mod sys {
 // their types. Every bit pattern is a value of each result and of Leg.
 
 /// Reads a book. Codes 0 to 7.
+#[must_use]
 #[rustfmt::skip]
 pub fn read(book: &[u8], table: &mut [u64], slots: &mut [u8]) -> Reading {
     unsafe {
@@ -145,6 +153,7 @@ pub fn read(book: &[u8], table: &mut [u64], slots: &mut [u8]) -> Reading {
 }
 
 /// Reads a book and checks its items. Codes 0 to 8.
+#[must_use]
 #[rustfmt::skip]
 pub fn check(book: &[u8], table: &mut [u64], slots: &mut [u8]) -> Reading {
     unsafe {
@@ -157,6 +166,7 @@ pub fn check(book: &[u8], table: &mut [u64], slots: &mut [u8]) -> Reading {
 }
 
 /// Checks a book and assembles the plan that undoes a run, its legs as bytes. Codes 0 to 11.
+#[must_use]
 #[rustfmt::skip]
 pub fn assemble(
     book: &[u8],
@@ -179,6 +189,7 @@ pub fn assemble(
 }
 
 /// [`assemble`] with the legs as structs.
+#[must_use]
 #[rustfmt::skip]
 pub fn assemble_legs(
     book: &[u8],
@@ -201,6 +212,7 @@ pub fn assemble_legs(
 }
 
 /// Writes the book of a table and slots. Codes 0, 1, 5, 7.
+#[must_use]
 #[rustfmt::skip]
 pub fn write(n: u64, m: u64, items: u64, table: &[u64], slots: &[u8], out: &mut [u8]) -> Writing {
     unsafe {
@@ -214,6 +226,7 @@ pub fn write(n: u64, m: u64, items: u64, table: &[u64], slots: &[u8], out: &mut 
 }
 
 /// Looks up the ridge repeater's table. Codes 0, 5.
+#[must_use]
 pub fn ridge(state: u64, command: u64) -> Lookup {
     unsafe { sys::rollback_ridge(state, command) }
 }

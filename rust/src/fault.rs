@@ -1,132 +1,230 @@
-use std::error::Error;
-use std::fmt;
+use core::error::Error;
+use core::fmt;
 
-/// Why a call was refused: a variant for each code, in order, from 1 to 11.
+use crate::calls::POINTS_LEN;
+use crate::{record_at, Record, NONE};
+
+/// Why a book or a run was refused: a variant for each code, in order, from 1 to 11.
 ///
-/// In a book the place is the offset of the faulty record.
+/// Printed, it says where and what: `item 1 (record at 129): a field is outside its range (code 5)`.
 #[derive(Clone, Copy, Debug, PartialEq, Eq)]
+#[non_exhaustive]
 pub enum Fault {
     /// 1: a lent buffer is shorter than stated. Only [`calls`](crate::calls) can meet it.
     ShortBuffer,
     /// 2: under 4 bytes of a record are left, or its body is cut off; an empty book too.
-    CutOff {
-        /// The record's offset.
-        place: usize,
-    },
+    CutOff(Record),
     /// 3: the kind is unknown in a book, or out of its order.
-    Kind {
-        /// The record's offset.
-        place: usize,
-    },
+    Kind(Record),
     /// 4: the body's length is not that of its kind.
-    Length {
-        /// The record's offset.
-        place: usize,
-    },
+    Length(Record),
     /// 5: a field is outside its range.
-    Field {
-        /// The record's offset. In writing, the first wrong entry's index or the first wrong
-        /// item's number; 0 for n or m.
-        place: usize,
-    },
+    Field(Record),
     /// 6: a move doesn't rise.
-    NotRising {
-        /// The record's offset.
-        place: usize,
-    },
+    NotRising(Record),
     /// 7: a 65th item.
-    TooManyItems {
-        /// The record's offset; 0 in writing.
-        place: usize,
-    },
-    /// 8: an item is not accepted.
-    NotAccepted {
-        /// The offset of the first such item.
-        place: usize,
-    },
+    TooManyItems(Record),
+    /// 8: an item is not accepted, the first such one.
+    NotAccepted(Record),
     /// 9: the run isn't exactly one record, or a command or mask is outside m or n.
     Run,
     /// 10: nothing can have happened that fits the run.
     NoHistory,
     /// 11: no items lead from the run's end back to its start.
     NoChain {
-        /// The fewest commands from each point down to 0, or [`NONE`](crate::NONE).
-        fewest: [u16; 33],
+        /// The fewest commands from each point down to 0, or [`NONE`].
+        fewest: [u16; POINTS_LEN],
+    },
+    /// A code that this crate doesn't know: the archive is another version's.
+    Unknown {
+        /// The code.
+        code: u64,
+        /// The place.
+        place: u64,
     },
 }
 
 impl Fault {
-    /// The fault of a code other than 0; `fewest` counts for 11 only.
-    pub(crate) fn of(code: u64, place: u64, fewest: [u16; 33]) -> Fault {
-        let place = place as usize;
+    /// The fault of an answer to `book` with this code and place, which are not 0. `fewest` counts
+    /// for 11 only.
+    #[must_use]
+    pub fn new(code: u64, place: u64, fewest: [u16; POINTS_LEN], book: &[u8]) -> Fault {
+        let record = || record_at(book, usize::try_from(place).unwrap_or(usize::MAX));
         match code {
             1 => Fault::ShortBuffer,
-            2 => Fault::CutOff { place },
-            3 => Fault::Kind { place },
-            4 => Fault::Length { place },
-            5 => Fault::Field { place },
-            6 => Fault::NotRising { place },
-            7 => Fault::TooManyItems { place },
-            8 => Fault::NotAccepted { place },
+            2 => Fault::CutOff(record()),
+            3 => Fault::Kind(record()),
+            4 => Fault::Length(record()),
+            5 => Fault::Field(record()),
+            6 => Fault::NotRising(record()),
+            7 => Fault::TooManyItems(record()),
+            8 => Fault::NotAccepted(record()),
             9 => Fault::Run,
             10 => Fault::NoHistory,
             11 => Fault::NoChain { fewest },
-            _ => unreachable!("the library has no code {code}"),
+            _ => Fault::Unknown { code, place },
         }
     }
 
-    /// The code, from 1 to 11.
+    /// The code.
+    #[must_use]
     pub fn code(&self) -> u64 {
-        match self {
+        match *self {
             Fault::ShortBuffer => 1,
-            Fault::CutOff { .. } => 2,
-            Fault::Kind { .. } => 3,
-            Fault::Length { .. } => 4,
-            Fault::Field { .. } => 5,
-            Fault::NotRising { .. } => 6,
-            Fault::TooManyItems { .. } => 7,
-            Fault::NotAccepted { .. } => 8,
+            Fault::CutOff(_) => 2,
+            Fault::Kind(_) => 3,
+            Fault::Length(_) => 4,
+            Fault::Field(_) => 5,
+            Fault::NotRising(_) => 6,
+            Fault::TooManyItems(_) => 7,
+            Fault::NotAccepted(_) => 8,
             Fault::Run => 9,
             Fault::NoHistory => 10,
             Fault::NoChain { .. } => 11,
+            Fault::Unknown { code, .. } => code,
         }
     }
 
-    /// The place; 0 for a fault that has none.
-    pub fn place(&self) -> usize {
+    /// The faulty record; None where the fault is not in the book.
+    #[must_use]
+    pub fn record(&self) -> Option<Record> {
         match *self {
-            Fault::CutOff { place }
-            | Fault::Kind { place }
-            | Fault::Length { place }
-            | Fault::Field { place }
-            | Fault::NotRising { place }
-            | Fault::TooManyItems { place }
-            | Fault::NotAccepted { place } => place,
-            Fault::ShortBuffer | Fault::Run | Fault::NoHistory | Fault::NoChain { .. } => 0,
+            Fault::CutOff(record)
+            | Fault::Kind(record)
+            | Fault::Length(record)
+            | Fault::Field(record)
+            | Fault::NotRising(record)
+            | Fault::TooManyItems(record)
+            | Fault::NotAccepted(record) => Some(record),
+            _ => None,
         }
     }
 }
 
 impl fmt::Display for Fault {
+    /// The words are those of `include/rollback_messages.h`.
     fn fmt(&self, f: &mut fmt::Formatter<'_>) -> fmt::Result {
+        if let Some(record) = self.record() {
+            write!(f, "{record}: ")?;
+        }
         let text = match self {
             Fault::ShortBuffer => "a lent buffer is shorter than stated",
-            Fault::CutOff { .. } => "under 4 bytes of a record are left, or its body is cut off",
-            Fault::Kind { .. } => "kind unknown in a book, or out of its order",
-            Fault::Length { .. } => "body length not that of its kind",
-            Fault::Field { .. } => "a field outside its range",
-            Fault::NotRising { .. } => "move doesn't rise",
-            Fault::TooManyItems { .. } => "a 65th item",
-            Fault::NotAccepted { .. } => "item not accepted",
-            Fault::Run => "run isn't exactly one record, or a command or mask is outside m or n",
-            Fault::NoHistory => "no history",
-            Fault::NoChain { .. } => "no chain from the run's end",
+            Fault::CutOff(_) => "the book ends before this record does",
+            Fault::Kind(_) => "a record of this kind can't stand here",
+            Fault::Length(_) => "the record's length is not that of its kind",
+            Fault::Field(_) => "a field is outside its range",
+            Fault::NotRising(_) => {
+                "the move doesn't rise: by state, then command, it must come after the move before it"
+            }
+            Fault::TooManyItems(_) => "a book has at most 64 items",
+            Fault::NotAccepted(_) => {
+                "the reverse commands can get stuck, or end elsewhere than in the start"
+            }
+            Fault::Run => {
+                "this is not one record of a run, or it has a command or state that the device lacks"
+            }
+            Fault::NoHistory => "nothing that the device can do fits what was sent and heard",
+            Fault::NoChain { .. } => "no items of the book lead from the run's end back to its start",
+            Fault::Unknown { .. } => "a code that this crate doesn't know",
         };
-        match self.code() {
-            2..=8 => write!(f, "{text} (code {}, place {})", self.code(), self.place()),
-            code => write!(f, "{text} (code {code})"),
+        write!(f, "{text} (code {})", self.code())?;
+        if let Fault::NoChain { fewest } = self {
+            write!(f, "; there are chains from points")?;
+            for (point, _) in fewest
+                .iter()
+                .enumerate()
+                .filter(|(_, &fewest)| fewest != NONE)
+            {
+                write!(f, " {point}")?;
+            }
         }
+        Ok(())
     }
 }
 
 impl Error for Fault {}
+
+/// Why a book could not be written.
+#[derive(Clone, Copy, Debug, PartialEq, Eq)]
+#[non_exhaustive]
+pub enum WriteFault {
+    /// 1: a lent buffer is shorter than stated. Only [`calls`](crate::calls) can meet it.
+    ShortBuffer,
+    /// 5: n is outside 1 to 64, or m outside 1 to 32.
+    Device,
+    /// 7: over 64 items.
+    TooManyItems,
+    /// 5: a state among these outcomes is not the device's. The first such ones.
+    Outcomes {
+        /// The state.
+        state: u64,
+        /// The command.
+        command: u64,
+    },
+    /// 5: a field of this item is outside its range. The first such one.
+    Item {
+        /// The item's number.
+        number: u64,
+    },
+    /// A code that this crate doesn't know: the archive is another version's.
+    Unknown {
+        /// The code.
+        code: u64,
+        /// The place.
+        place: u64,
+    },
+}
+
+impl WriteFault {
+    /// The fault of writing's answer with this code and place, the code not 0. Which of its three
+    /// meanings code 5 has, the arguments tell: entries are judged before items.
+    #[must_use]
+    pub fn new(code: u64, place: u64, n: u64, m: u64, table: &[u64]) -> WriteFault {
+        let entry = usize::try_from(place).ok().and_then(|at| table.get(at));
+        match code {
+            1 => WriteFault::ShortBuffer,
+            5 if !(1..=64).contains(&n) || !(1..=32).contains(&m) => WriteFault::Device,
+            5 if n < 64 && place < n * m && entry.is_some_and(|mask| mask >> n != 0) => {
+                WriteFault::Outcomes {
+                    state: place / m,
+                    command: place % m,
+                }
+            }
+            5 => WriteFault::Item { number: place },
+            7 => WriteFault::TooManyItems,
+            _ => WriteFault::Unknown { code, place },
+        }
+    }
+
+    /// The code.
+    #[must_use]
+    pub fn code(&self) -> u64 {
+        match *self {
+            WriteFault::ShortBuffer => 1,
+            WriteFault::Device | WriteFault::Outcomes { .. } | WriteFault::Item { .. } => 5,
+            WriteFault::TooManyItems => 7,
+            WriteFault::Unknown { code, .. } => code,
+        }
+    }
+}
+
+impl fmt::Display for WriteFault {
+    fn fmt(&self, f: &mut fmt::Formatter<'_>) -> fmt::Result {
+        match self {
+            WriteFault::ShortBuffer => write!(f, "a lent buffer is shorter than stated"),
+            WriteFault::Device => write!(f, "a device has 1 to 64 states and 1 to 32 commands"),
+            WriteFault::TooManyItems => write!(f, "a book has at most 64 items"),
+            WriteFault::Outcomes { state, command } => {
+                write!(
+                    f,
+                    "state {state}, command {command}: an outcome is a state that the device lacks"
+                )
+            }
+            WriteFault::Item { number } => write!(f, "item {number}: a field is outside its range"),
+            WriteFault::Unknown { .. } => write!(f, "a code that this crate doesn't know"),
+        }?;
+        write!(f, " (code {})", self.code())
+    }
+}
+
+impl Error for WriteFault {}

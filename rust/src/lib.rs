@@ -7,7 +7,11 @@
 //! All judging and planning is done by `libplanner.a`, whose answers are proved; this crate lends it
 //! buffers and gives its answers types. [`calls`] has the calls themselves, of numbers and slices.
 //!
-//! Sets of states are 64-bit masks: state s is in a set when bit s is 1.
+//! Sets of states are 64-bit masks: state s is in a set when bit s is 1. `docs/FORMAT.md` has the
+//! bytes of books and runs.
+//!
+//! Without the default feature `std` the crate needs `core` alone, and has [`calls`], [`Fault`],
+//! [`WriteFault`], [`record_at`] and [`ridge`].
 //!
 //! ```
 //! // A switch: command 0 turns it off, command 1 on. "Off" undoes "on" if it was off before.
@@ -19,27 +23,38 @@
 //! let run = rollback::run(&[1], &[0b01, 0b11]);
 //! let plan = rollback::plan(&book, &run)?;
 //! assert_eq!(plan.commands(), [0]);
-//! assert_eq!(plan.to_string(), "send 0\nitem 0 from point 1 to 0\n");
+//! assert_eq!(plan.to_string(), "send 0\nitem 0 from point 1 to 0: 0\n");
 //!
 //! // Had it not been seen off, it may have been on before, and nothing in the book undoes that.
 //! let run = rollback::run(&[1], &[0b11, 0b11]);
 //! assert!(matches!(rollback::plan(&book, &run), Err(rollback::Fault::NoChain { .. })));
-//! # Ok::<(), rollback::Fault>(())
+//! # Ok::<(), Box<dyn std::error::Error>>(())
 //! ```
+#![no_std]
 #![deny(missing_docs)]
 #![deny(unsafe_code)]
+#![warn(clippy::pedantic)]
 
+#[cfg(feature = "std")]
+extern crate std;
+
+#[cfg(feature = "std")]
 mod book;
 pub mod calls;
 mod fault;
+#[cfg(feature = "std")]
 mod plan;
+mod record;
 
-pub use book::{write, Book, Item};
+#[cfg(feature = "std")]
+pub use book::{write, Book, CheckedBook, Item};
 pub use calls::Leg;
-pub use fault::Fault;
+pub use fault::{Fault, WriteFault};
+#[cfg(feature = "std")]
 pub use plan::{plan, run, Plan};
+pub use record::{record_at, Kind, Record};
 
-/// In the 33 numbers of [`Plan::fewest`] and [`Fault::NoChain`]: no chain from that point.
+/// In the 33 numbers of [`Assembly::fewest`](calls::Assembly::fewest) and [`Fault::NoChain`]: no chain from that point.
 pub const NONE: u16 = 65_535;
 
 /// The outcomes of a command of the ridge repeater in a state. None for a state over 63 or a
@@ -49,7 +64,14 @@ pub const NONE: u16 = 65_535;
 /// assert_eq!(rollback::ridge(0, 13), Some(15));
 /// assert_eq!(rollback::ridge(64, 0), None);
 /// ```
+#[must_use]
 pub fn ridge(state: u64, command: u64) -> Option<u64> {
     let r = calls::ridge(state, command);
     (r.code == 0).then_some(r.mask)
+}
+
+/// A count of the library as a size; it has none that doesn't fit.
+#[cfg(feature = "std")]
+fn size(count: u64) -> usize {
+    usize::try_from(count).unwrap_or(usize::MAX)
 }

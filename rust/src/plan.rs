@@ -1,50 +1,79 @@
-use std::fmt;
+use core::fmt;
+use std::vec;
+use std::vec::Vec;
 
 use crate::calls::{self, Leg};
-use crate::Fault;
+use crate::{size, Fault};
 
 /// The plan that undoes a run. Printed, it is what to send, then a line for each leg.
+///
+/// ```text
+/// send 8 1 9 15
+/// item 2 from point 2 to 1: 8 1 9
+/// item 0 from point 1 to 0: 15
+/// ```
 #[derive(Clone, Debug, PartialEq, Eq)]
 pub struct Plan {
     commands: Vec<u8>,
     legs: Vec<Leg>,
-    fewest: [u16; 33],
+    /// The number of commands of each leg.
+    counts: Vec<usize>,
+    fewest: [u16; calls::POINTS_LEN],
 }
 
 impl Plan {
     /// The commands to send, in order.
+    #[must_use]
     pub fn commands(&self) -> &[u8] {
         &self.commands
     }
 
     /// The items used, from the run's end down to point 0.
+    #[must_use]
     pub fn legs(&self) -> &[Leg] {
         &self.legs
     }
 
+    /// The legs, each with its commands.
+    pub fn steps(&self) -> impl Iterator<Item = (Leg, &[u8])> {
+        let mut rest = self.commands();
+        self.legs
+            .iter()
+            .zip(&self.counts)
+            .map(move |(&leg, &count)| {
+                let (commands, after) = rest.split_at(count.min(rest.len()));
+                rest = after;
+                (leg, commands)
+            })
+    }
+
     /// The fewest commands from each point down to 0; [`NONE`](crate::NONE) where no chain exists
     /// or the point is past the run's end.
-    pub fn fewest(&self) -> &[u16; 33] {
+    #[must_use]
+    pub fn fewest(&self) -> &[u16; calls::POINTS_LEN] {
         &self.fewest
     }
+}
+
+/// Commands in a row, or `nothing`.
+fn row(f: &mut fmt::Formatter<'_>, commands: &[u8]) -> fmt::Result {
+    for command in commands {
+        write!(f, " {command}")?;
+    }
+    f.write_str(if commands.is_empty() {
+        " nothing\n"
+    } else {
+        "\n"
+    })
 }
 
 impl fmt::Display for Plan {
     fn fmt(&self, f: &mut fmt::Formatter<'_>) -> fmt::Result {
         write!(f, "send")?;
-        for command in &self.commands {
-            write!(f, " {command}")?;
-        }
-        if self.commands.is_empty() {
-            write!(f, " nothing")?;
-        }
-        writeln!(f)?;
-        for leg in &self.legs {
-            writeln!(
-                f,
-                "item {} from point {} to {}",
-                leg.item, leg.upper, leg.lower
-            )?;
+        row(f, &self.commands)?;
+        for (Leg { item, upper, lower }, commands) in self.steps() {
+            write!(f, "item {item} from point {upper} to {lower}:")?;
+            row(f, commands)?;
         }
         Ok(())
     }
@@ -52,40 +81,44 @@ impl fmt::Display for Plan {
 
 /// Checks a book and assembles from its items the plan that undoes a run: the chain with fewest
 /// commands; among equals, the one with the lower item number at the first difference.
+///
+/// # Errors
+/// Codes 2 to 8: the book is refused. Codes 9 to 11: the bytes are no run of its device, or nothing
+/// in the book undoes it.
 pub fn plan(book: &[u8], run: &[u8]) -> Result<Plan, Fault> {
-    let mut table = [0; calls::TABLE];
-    let mut slots = [0; calls::SLOTS];
-    let mut commands = vec![0; calls::PLAN];
-    let mut legs = vec![
-        Leg {
-            item: 0,
-            upper: 0,
-            lower: 0
-        };
-        calls::LEG_STRUCTS
-    ];
+    let mut table = vec![0; calls::TABLE_LEN];
+    let mut slots = vec![0; calls::SLOTS_LEN];
+    let mut commands = vec![0; calls::PLAN_LEN];
+    let mut legs = vec![Leg::default(); calls::LEG_STRUCTS_LEN];
     let r = calls::assemble_legs(book, run, &mut table, &mut slots, &mut commands, &mut legs);
     if r.code != 0 {
-        return Err(Fault::of(r.code, r.place, r.fewest));
+        return Err(Fault::new(r.code, r.place, r.fewest, book));
     }
-    commands.truncate(r.commands as usize);
-    legs.truncate(r.legs as usize);
+    commands.truncate(size(r.commands));
+    legs.truncate(size(r.legs));
+    let count = |leg: &Leg| slots.get(usize::from(leg.item) * calls::SLOT_LEN + 1);
+    let counts = legs
+        .iter()
+        .map(|leg| count(leg).map_or(0, |&r| usize::from(r)))
+        .collect();
     Ok(Plan {
         commands,
         legs,
+        counts,
         fewest: r.fewest,
     })
 }
 
 /// A run's bytes: the commands that were sent, and before, between and after them the sightings,
 /// sets of states. All n bits mean that nothing was heard. What is no run, [`plan`] refuses.
+#[must_use]
 pub fn run(commands: &[u8], sightings: &[u64]) -> Vec<u8> {
     let length = 1 + commands.len() + 8 * sightings.len();
     let mut bytes = Vec::with_capacity(4 + length);
-    bytes.extend((length as u16).to_le_bytes());
+    // Numbers past their fields' range become the largest there, which no run has.
+    bytes.extend(u16::try_from(length).unwrap_or(u16::MAX).to_le_bytes());
     bytes.extend(4u16.to_le_bytes());
-    // A count past a byte's range becomes 255, which no run has.
-    bytes.push(commands.len().min(255) as u8);
+    bytes.push(u8::try_from(commands.len()).unwrap_or(u8::MAX));
     bytes.extend(commands);
     for sighting in sightings {
         bytes.extend(sighting.to_le_bytes());

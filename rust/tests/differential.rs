@@ -1,5 +1,5 @@
 //! The library against the plain program on random books and runs, valid and damaged: every result
-//! and every byte of every buffer. ROLLBACK_SEED is the first seed (0), ROLLBACK_COUNT the number of
+//! and every byte of every buffer. `ROLLBACK_SEED` is the first seed (0), `ROLLBACK_COUNT` the number of
 //! inputs (100,000).
 
 use std::env;

@@ -1,28 +1,42 @@
 //! The safe types on the cases of a second program: each answer as a plan, a book or a fault.
 
-use rollback::{Book, Fault, Item};
-use rollback_cases::{assemble_cases, book_cases};
+use rollback::calls::{self, POINTS_LEN};
+use rollback::{record_at, Book, Fault, Item, Kind, WriteFault, NONE};
+use rollback_cases::{assemble_cases, book_cases, q5_run, q_book};
+
+fn code_and_place(fault: &Fault) -> [u64; 2] {
+    [
+        fault.code(),
+        fault.record().map_or(0, |record| record.place as u64),
+    ]
+}
 
 #[test]
 fn plans() {
     for (number, case) in assemble_cases().iter().enumerate() {
-        let (code, place, fewest) = match rollback::plan(&case.book, &case.run) {
+        let (head, fewest) = match rollback::plan(&case.book, &case.run) {
             Ok(plan) => {
                 assert_eq!(plan.commands(), case.plan, "case {number}");
                 let legs = plan.legs().iter();
                 let legs: Vec<_> = legs.map(|leg| [leg.item, leg.upper, leg.lower]).collect();
                 assert_eq!(legs, case.leg_list, "case {number}");
+                let book = Book::check(&case.book).unwrap();
+                let items: Vec<Item> = book.items().collect();
+                for (leg, commands) in plan.steps() {
+                    assert_eq!(
+                        commands,
+                        items[usize::from(leg.item)].reverse,
+                        "case {number}"
+                    );
+                }
                 assert_eq!(plan.to_string().lines().count(), 1 + legs.len());
-                (0, 0, *plan.fewest())
+                assert_eq!(book.plan(&case.run).as_ref(), Ok(&plan), "case {number}");
+                ([0, 0], *plan.fewest())
             }
-            Err(fault @ Fault::NoChain { fewest }) => (fault.code(), fault.place(), fewest),
-            Err(fault) => (fault.code(), fault.place(), case.fewest),
+            Err(fault @ Fault::NoChain { fewest }) => (code_and_place(&fault), fewest),
+            Err(fault) => (code_and_place(&fault), case.fewest),
         };
-        assert_eq!(
-            [code, place as u64],
-            [case.code, case.place],
-            "case {number}"
-        );
+        assert_eq!(head, [case.code, case.place], "case {number}");
         assert_eq!(fewest, case.fewest, "case {number}");
     }
 }
@@ -34,24 +48,21 @@ fn books() {
         if case.reading[0] == 1 {
             continue;
         }
-        let answer = |book: &Result<Book, Fault>| match book {
-            Ok(book) => [0, 0, book.states(), book.commands(), book.items().len()],
-            Err(fault) => [fault.code() as usize, fault.place(), 0, 0, 0],
+        let answer = |book: Result<&Book, &Fault>| match book {
+            Ok(book) => {
+                [0, 0, book.states(), book.commands(), book.items().len()].map(|n| n as u64)
+            }
+            Err(fault) => {
+                let [code, place] = code_and_place(fault);
+                [code, place, 0, 0, 0]
+            }
         };
         let read = Book::read(&case.book);
-        assert_eq!(
-            answer(&read).map(|n| n as u64),
-            case.reading,
-            "book {number}"
-        );
+        assert_eq!(answer(read.as_ref()), case.reading, "book {number}");
         let checked = Book::check(&case.book);
-        assert_eq!(
-            answer(&checked).map(|n| n as u64),
-            case.checking,
-            "book {number}"
-        );
+        assert_eq!(answer(checked.as_deref()), case.checking, "book {number}");
         if let Ok(book) = read {
-            assert_eq!(book.to_bytes(), case.book, "book {number}");
+            assert_eq!(book.bytes(), case.book, "book {number}");
             let (n, m) = (book.states(), book.commands());
             let outcomes: Vec<u64> = (0..n * m)
                 .map(|entry| book.outcomes(entry / m, entry % m).unwrap())
@@ -64,7 +75,7 @@ fn books() {
 }
 
 #[test]
-fn too_much_to_write() {
+fn what_can_not_be_written() {
     let item = |forward, reverse| Item {
         forward,
         reverse,
@@ -75,31 +86,100 @@ fn too_much_to_write() {
     let written = |items: &[Item]| rollback::write(1, 1, &[], items);
     assert_eq!(
         written(&[item(&one, &one); 65]),
-        Err(Fault::TooManyItems { place: 0 })
+        Err(WriteFault::TooManyItems)
     );
     for long in [&nine[..], &many] {
-        let field = Err(Fault::Field { place: 1 });
-        assert_eq!(written(&[item(&one, &one), item(long, &one)]), field);
-        assert_eq!(written(&[item(&one, &one), item(&one, long)]), field);
+        let fault = Err(WriteFault::Item { number: 1 });
+        assert_eq!(written(&[item(&one, &one), item(long, &one)]), fault);
+        assert_eq!(written(&[item(&one, &one), item(&one, long)]), fault);
     }
+    // Code 5 at place 0 has three meanings.
+    let fault = |n, m, outcomes: &[u64], items: &[Item]| {
+        rollback::write(n, m, outcomes, items)
+            .unwrap_err()
+            .to_string()
+    };
+    let device = "a device has 1 to 64 states and 1 to 32 commands (code 5)";
+    assert_eq!(fault(0, 1, &[], &[]), device);
+    assert_eq!(fault(64, 33, &[], &[]), device);
+    let outcome = "state 1, command 2: an outcome is a state that the device lacks (code 5)";
+    assert_eq!(
+        fault(2, 3, &[0, 0, 0, 0, 0, 4], &[item(&nine, &one)]),
+        outcome
+    );
+    assert_eq!(
+        fault(64, 1, &[], &[item(&nine, &one)]),
+        "item 0: a field is outside its range (code 5)"
+    );
 }
 
 #[test]
 fn too_long_a_run() {
     let book = rollback::write(1, 1, &[1], &[]).unwrap();
-    for (commands, sightings) in [(33, 34), (256, 257), (287, 0), (288, 1)] {
+    for (commands, sightings) in [
+        (33, 34),
+        (256, 257),
+        (287, 0),
+        (288, 1),
+        (0, 1 << 13),
+        (1, 1 << 16),
+    ] {
         let run = rollback::run(&vec![0; commands], &vec![1; sightings]);
         assert_eq!(rollback::plan(&book, &run), Err(Fault::Run));
     }
     assert!(rollback::plan(&book, &rollback::run(&[], &[1])).is_ok());
+    assert_eq!(rollback::run(&[0; 32], &[1; 33]).len(), calls::RUN_LEN);
+}
+
+/// Q's records by number and place, as docs/FORMAT.md lists them.
+#[test]
+fn records_have_names() {
+    let book = q_book();
+    let names = [0, 6, 20, 34, 48, 62, 76, 90, 104, 129, 153, 178, 201, 225]
+        .map(|place| record_at(&book, place).to_string());
+    assert_eq!(names[0], "device 0 (record at 0)");
+    assert_eq!(names[7], "move 6 (record at 90)");
+    assert_eq!(names[9], "item 1 (record at 129)");
+    assert_eq!(names[12], "item 4 (record at 201)");
+    assert_eq!(names[13], "record 13 (at 225)");
+    assert_eq!(record_at(&book, usize::MAX).kind, Kind::Unknown);
+    assert_eq!(record_at(&[], 0).to_string(), "record 0 (at 0)");
 }
 
 #[test]
-fn every_fault_has_words() {
-    assert_eq!(Fault::NoHistory.to_string(), "no history (code 10)");
-    let fault = Book::read(&[0]).unwrap_err();
-    assert_eq!((fault.code(), fault.place()), (2, 0));
-    assert!(fault
-        .to_string()
-        .ends_with("its body is cut off (code 2, place 0)"));
+fn faults_have_words() {
+    let mut book = q_book();
+    // Q2 of the marked twelve: item 1 with psi 3.
+    book[145] = 3;
+    assert_eq!(
+        rollback::plan(&book, &q5_run()).unwrap_err().to_string(),
+        "item 1 (record at 129): the reverse commands can get stuck, or end elsewhere than in the start (code 8)"
+    );
+    // Q9: 1; 7 7.
+    assert_eq!(
+        rollback::plan(&q_book(), &rollback::run(&[1], &[7, 7])).unwrap_err().to_string(),
+        "no items of the book lead from the run's end back to its start (code 11); there are chains from points 0"
+    );
+    assert_eq!(
+        Fault::NoHistory.to_string(),
+        "nothing that the device can do fits what was sent and heard (code 10)"
+    );
+    let unknown = Fault::new(99, 7, [NONE; POINTS_LEN], &[]);
+    assert_eq!(unknown, Fault::Unknown { code: 99, place: 7 });
+    assert_eq!(
+        unknown.to_string(),
+        "a code that this crate doesn't know (code 99)"
+    );
+}
+
+#[test]
+fn a_plan_reads_as_lines() {
+    // Q8: 1 1; 1 7 7, by item 3, whose reverse is empty, and item 1.
+    let plan = rollback::plan(&q_book(), &rollback::run(&[1, 1], &[1, 7, 7])).unwrap();
+    assert_eq!(
+        plan.to_string(),
+        "send 0\nitem 3 from point 2 to 1: nothing\nitem 1 from point 1 to 0: 0\n"
+    );
+    let nothing = rollback::plan(&q_book(), &rollback::run(&[], &[7])).unwrap();
+    assert_eq!(nothing.to_string(), "send nothing\n");
 }

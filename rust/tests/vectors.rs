@@ -1,4 +1,4 @@
-//! The cases of a second program, `vectors/`, against the library.
+//! The cases that a second program has answered, against the library.
 
 use rollback::calls::{self, Leg, Reading};
 use rollback_cases::{assemble_cases, book_cases, ridge_masks, write_cases};
@@ -32,13 +32,13 @@ fn books() {
 fn plans() {
     let cases = assemble_cases();
     for (number, case) in cases.iter().enumerate() {
-        let mut plan_after = [FILL; calls::PLAN];
+        let mut plan_after = [FILL; calls::PLAN_LEN];
         plan_after[..case.plan.len()].copy_from_slice(&case.plan);
-        let mut legs_after = [FILL; calls::LEGS];
+        let mut legs_after = [FILL; calls::LEGS_LEN];
         legs_after[..3 * case.leg_list.len()].copy_from_slice(case.leg_list.as_flattened());
-        let (mut table, mut slots) = ([0; calls::TABLE], [0; calls::SLOTS]);
+        let (mut table, mut slots) = ([0; calls::TABLE_LEN], [0; calls::SLOTS_LEN]);
 
-        let (mut plan, mut legs) = ([FILL; calls::PLAN], [FILL; calls::LEGS]);
+        let (mut plan, mut legs) = ([FILL; calls::PLAN_LEN], [FILL; calls::LEGS_LEN]);
         let (book, run) = (&case.book, &case.run);
         let r = calls::assemble(book, run, &mut table, &mut slots, &mut plan, &mut legs);
         let head = [case.code, case.place, case.commands, case.legs];
@@ -47,12 +47,12 @@ fn plans() {
         assert_eq!(plan, plan_after, "plan of case {number}");
         assert_eq!(legs, legs_after, "legs of case {number}");
 
-        let mut plan = [FILL; calls::PLAN];
+        let mut plan = [FILL; calls::PLAN_LEN];
         let mut legs = [Leg {
             item: FILL,
             upper: FILL,
             lower: FILL,
-        }; calls::LEG_STRUCTS];
+        }; calls::LEG_STRUCTS_LEN];
         let s = calls::assemble_legs(book, run, &mut table, &mut slots, &mut plan, &mut legs);
         assert_eq!(s, r, "case {number} with structs");
         assert_eq!(plan, plan_after, "plan of case {number} with structs");

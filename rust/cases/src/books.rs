@@ -3,7 +3,7 @@
 use crate::device::{all, book_bytes, ridge_device, run_bytes, states, Device, Item};
 use crate::rng::Rng;
 
-/// Q of 01: 225 bytes, 5 items.
+/// Q of docs/FORMAT.md: 225 bytes, 5 items.
 pub fn q_book() -> Vec<u8> {
     let mut q = Device::empty(3, 3);
     for s in 0..3 {

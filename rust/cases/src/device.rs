@@ -156,7 +156,7 @@ pub fn slot_bytes(item: &Item) -> [u8; 34] {
     slot
 }
 
-/// The ridge repeater, by the words of 01.
+/// The ridge repeater, by the words of docs/FORMAT.md.
 pub fn ridge_device() -> Device {
     let state = |c: usize, p: usize, q: usize| 1u64 << (c + 4 * p + 16 * q);
     let mut device = Device::empty(64, 16);

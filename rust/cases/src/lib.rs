@@ -1,4 +1,4 @@
-//! Cases for programs written from document 01: the answers of a second
+//! Cases for programs of docs/FORMAT.md: the answers of a second
 //! program (`vectors`), random inputs that one seed makes again (`random`),
 //! and books for measuring (`books`).
 

@@ -1,15 +1,20 @@
-//! The cases answered by a second program; `vectors/README.md` tells their
-//! form.
+//! The cases that a second program, by other hands, has answered. They stand once, beside the test
+//! programs of `crates/` that the gate runs; numbers in the files are little-endian.
 
-macro_rules! vectors {
+macro_rules! data {
     ($name:literal) => {
-        include_bytes!(concat!(env!("CARGO_MANIFEST_DIR"), "/../vectors/", $name))
+        include_bytes!(concat!(env!("CARGO_MANIFEST_DIR"), "/../../crates/", $name))
     };
 }
 
 macro_rules! answers {
     ($name:literal) => {
-        include_str!(concat!(env!("CARGO_MANIFEST_DIR"), "/../vectors/", $name))
+        include_str!(concat!(
+            env!("CARGO_MANIFEST_DIR"),
+            "/../../crates/",
+            $name,
+            "/stdout"
+        ))
     };
 }
 
@@ -63,15 +68,17 @@ pub struct WriteCase {
 
 /// The ridge repeater's 1,024 masks by entry.
 pub fn ridge_masks() -> Vec<u64> {
-    answers!("ridge.txt")
+    answers!("ridge_vectors")
         .lines()
         .map(|line| line.parse().unwrap())
         .collect()
 }
 
+/// Each case: two-byte lengths of book and run, the book, the run. Each answer: four lines, namely
+/// code, place and the two counts; the plan; the legs, three numbers each; the 33 numbers.
 pub fn assemble_cases() -> Vec<AssembleCase> {
-    let mut bytes = Bytes(vectors!("cases.bin"));
-    let mut lines = answers!("expected.txt").lines();
+    let mut bytes = Bytes(data!("case_vectors/data/cases.bin"));
+    let mut lines = answers!("case_vectors").lines();
     let mut cases = Vec::new();
     while !bytes.0.is_empty() {
         let (book, run) = (bytes.number(2), bytes.number(2));
@@ -96,9 +103,12 @@ pub fn assemble_cases() -> Vec<AssembleCase> {
     cases
 }
 
+/// Each case: a byte for the lengths of the lent buffers, a two-byte length, the book. Each answer:
+/// four lines, namely reading; checking; then the table's entries 0 to 39 and the slots' bytes 0 to
+/// 101 after checking.
 pub fn book_cases() -> Vec<BookCase> {
-    let mut bytes = Bytes(vectors!("books.bin"));
-    let mut lines = answers!("books.txt").lines();
+    let mut bytes = Bytes(data!("book_vectors/data/books.bin"));
+    let mut lines = answers!("book_vectors").lines();
     let mut cases = Vec::new();
     while !bytes.0.is_empty() {
         let (table, slots) = match bytes.number(1) {
@@ -123,9 +133,12 @@ pub fn book_cases() -> Vec<BookCase> {
     cases
 }
 
+/// Each case: n, m, count (8 bytes each), a byte for the lengths of the buffers, the table's first 48
+/// entries, the first 3 slots; all after them is 0. Each answer: two lines, namely code, place and
+/// length; the output's bytes 0 to length + 3.
 pub fn write_cases() -> Vec<WriteCase> {
-    let mut bytes = Bytes(vectors!("writes.bin"));
-    let mut lines = answers!("writes.txt").lines();
+    let mut bytes = Bytes(data!("write_vectors/data/writes.bin"));
+    let mut lines = answers!("write_vectors").lines();
     let mut cases = Vec::new();
     while !bytes.0.is_empty() {
         let [n, m, items] = [0; 3].map(|_| bytes.word());

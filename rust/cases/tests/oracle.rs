@@ -1,4 +1,4 @@
-//! rollback-plain against a slow program that goes by the words of 01:
+//! rollback-plain against a slow program that goes by the words of docs/FORMAT.md:
 //! trajectories, histories and chains are listed one by one. A seed whose
 //! lists would be too long is skipped.
 

@@ -1,4 +1,4 @@
-//! Books, runs and roll-back plans, written from document 01.
+//! Books, runs and roll-back plans as in docs/FORMAT.md, written from the paper behind it alone.
 //!
 //! Nothing is allocated: the caller lends every buffer. A refusal is a code
 //! and a place; code 0 is done.

@@ -1,4 +1,4 @@
-//! The marked twelve of 01 on the small device Q, and the ridge's facts.
+//! The marked twelve cases on the small device Q, and the ridge's facts.
 
 use super::*;
 

@@ -1,0 +1,159 @@
+#!/bin/sh
+# The tests from outside, with no part of the gate: check.sh [CALLS]
+# The headers under every standard that gcc and clang have; the archive's names; every call between guard
+# pages and, where valgrind is present, under it, CALLS times each (100,000); the stack that rollback.h states;
+# the C and the Rust example on the same inputs; README's example and docs/FORMAT.md's bytes. Its last line
+# says it all.
+set -eu
+cd "$(dirname "$0")/.."
+calls=${1:-100000}
+archive=target/staticlib/libplanner.a
+cases=crates/case_vectors/data/cases.bin
+data=crates/rollback/data
+[ -r "$archive" ] || { echo "no $archive: rt staticlib planner writes it" >&2; exit 2; }
+strict='-Wall -Wextra -Wpedantic -Wconversion -Werror'
+work=$(mktemp -d)
+part=start
+trap 'status=$?; rm -rf "$work"; [ $status -eq 0 ] || echo "c/check.sh: FAILED at: $part"' EXIT
+said=''
+say() { echo "$1"; said="$said${said:+; }$1"; }
+
+# Builds and runs c/header.c by a compiler in the standards that it has.
+headers() { # compiler, language, standards
+    ! command -v "$1" >/dev/null && return
+    for standard in $3; do
+        part="headers, $1 -std=$standard"
+        echo 'int main(void) { return 0; }' >"$work/empty.c"
+        "$1" -x "$2" "-std=$standard" -fsyntax-only "$work/empty.c" 2>/dev/null || continue
+        # shellcheck disable=SC2086
+        "$1" -x "$2" "-std=$standard" $strict -Iinclude -o "$work/header" c/header.c -x none "$archive"
+        "$work/header"
+        done_in=$((done_in + 1))
+    done
+}
+c='c89 c99 c11 c17 c2x'
+cxx='c++98 c++11 c++14 c++17 c++20 c++2b'
+compilers=''
+for pair in 'gcc g++' 'clang clang++'; do
+    done_in=0
+    headers "${pair% *}" c "$c"
+    headers "${pair#* }" c++ "$cxx"
+    [ $done_in -eq 0 ] || compilers="$compilers${compilers:+, }${pair% *} $done_in"
+done
+part='headers'
+[ -n "$compilers" ]
+say "headers in C89 to C23 and C++98 to C++23 ($compilers standards)"
+
+part='version'
+grep -qx "version = \"$(sed -n 's/^#define ROLLBACK_VERSION "\(.*\)"$/\1/p' include/rollback.h)\"" rust/Cargo.toml
+
+# The bytes that docs/FORMAT.md takes apart are those of the files.
+part='docs/FORMAT.md'
+bytes_between() { sed -n "/^$1/,/^$2/p" docs/FORMAT.md | grep -o '`[0-9a-f][0-9a-f ]*`' | tr -d '` \n'; }
+bytes_of() { od -An -v -tx1 "$1" | tr -d ' \n'; }
+[ "$(bytes_between '### Q, ' '## A run')" = "$(bytes_of $data/book.bin)" ]
+[ "$(bytes_between 'Q5, ' 'A history')" = "$(bytes_of $data/run.bin)" ]
+
+part='names'
+c/names.sh "$archive"
+say '6 names'
+
+part='build'
+for program in plan guard stack; do
+    # shellcheck disable=SC2086
+    ${CC:-cc} -std=c99 -O2 $strict -Iinclude -o "$work/$program" "c/$program.c" "$archive" -lpthread
+done
+
+part='guard pages'
+"$work/guard" pages "$cases" "$calls" >"$work/out" || { cat "$work/out"; exit 1; }
+cat "$work/out"
+say "between guard pages $(tail -n 1 "$work/out")"
+
+part='valgrind'
+if command -v valgrind >/dev/null; then
+    valgrind -q --error-exitcode=9 "$work/guard" heap "$cases" "$calls" >"$work/out" || { cat "$work/out"; exit 1; }
+    say "under valgrind $(tail -n 1 "$work/out"), lent buffers uninitialised"
+else
+    say 'no valgrind'
+fi
+
+part='stack'
+"$work/stack" "$cases"
+say 'stack as stated'
+
+# The two examples on the same files: status, standard output and error.
+part='examples'
+byte() { # file, offset, value in octal: the file with that byte changed
+    head -c "$2" "$1"; printf "\\$3"; tail -c +"$(($2 + 2))" "$1"
+}
+q=$data/book.bin
+mkdir "$work/in"
+cp "$q" "$data/run.bin" "$work/in"
+(
+    : >"$work/in/2-empty"
+    head -c 103 "$q" >"$work/in/2-cut"
+    byte "$q" 36 7 >"$work/in/3-kind"
+    byte "$q" 2 2 >"$work/in/3-first"
+    byte "$q" 34 13 >"$work/in/4-length"
+    byte "$q" 129 25 >"$work/in/4-item"
+    byte "$q" 10 5 >"$work/in/5-field"
+    byte "$q" 39 1 >"$work/in/6-rising"
+    head -c 6 "$q" >"$work/in/7-items"
+    for i in $(seq 65); do tail -c +179 "$q" | head -c 23; done >>"$work/in/7-items"
+    byte "$q" 145 3 >"$work/in/8-accepted"
+)
+printf '\11\0\4\0\0\0\0\0\0\0\0\0\0' >"$work/in/run-10"
+printf '\22\0\4\0\1\1\7\0\0\0\0\0\0\0\7\0\0\0\0\0\0\0' >"$work/in/run-11"
+printf '\33\0\4\0\2\1\1\1\0\0\0\0\0\0\0\7\0\0\0\0\0\0\0\7\0\0\0\0\0\0\0' >"$work/in/run-q8"
+printf '\11\0\4\0\0\7\0\0\0\0\0\0\0' >"$work/in/run-q11"
+if command -v cargo >/dev/null; then
+    cargo build -q --release --manifest-path rust/Cargo.toml --example plan --example ridge
+    rust=rust/target/release/examples
+    tried=0
+    try() { # status, arguments
+        expected=$1
+        shift
+        part="examples: $*"
+        status=0; "$work/plan" "$@" >"$work/c.out" 2>"$work/c.err" || status=$?
+        [ $status -eq "$expected" ] || { echo "C: status $status"; cat "$work/c.out" "$work/c.err"; exit 1; }
+        status=0; $rust/plan "$@" >"$work/rust.out" 2>"$work/rust.err" || status=$?
+        [ $status -eq "$expected" ] || { echo "Rust: status $status"; cat "$work/rust.out" "$work/rust.err"; exit 1; }
+        cmp "$work/c.out" "$work/rust.out"
+        # The words for a file that can't be read are the system's, and Rust adds its number.
+        [ "$expected" -eq 2 ] || cmp "$work/c.err" "$work/rust.err"
+        [ "$expected" -eq 0 ] || { [ -s "$work/c.err" ] && [ -s "$work/rust.err" ] && [ ! -s "$work/c.out" ]; }
+        tried=$((tried + 1))
+    }
+    in=$work/in
+    try 0 "$in/book.bin" "$in/run.bin"
+    try 0 "$in/book.bin" "$in/run-q8"
+    try 0 "$in/book.bin" "$in/run-q11"
+    for book in "$in"/[2-8]-*; do
+        try 1 "$book" "$in/run.bin"
+        code=${book##*/}
+        grep -q "(code ${code%%-*})" "$work/c.err"
+        sed "s|$in/||" "$work/c.err"
+    done
+    try 1 "$in/book.bin" "$in/2-cut"
+    try 1 "$in/book.bin" "$in/run-10"
+    try 1 "$in/book.bin" "$in/run-11"
+    try 2 "$in/book.bin"
+    try 2 "$in/book.bin" "$in/run.bin" "$in/run.bin"
+    try 2 "$in/missing" "$in/run.bin"
+    try 2 "$in/book.bin" "$in/missing"
+    try 2 "$in" "$in/run.bin"
+    say "C and Rust example alike on $tried inputs"
+
+    part='crate without std'
+    cargo build -q --release --manifest-path rust/Cargo.toml --no-default-features --lib
+
+    part='README: the ridge example'
+    $rust/ridge "$work/ridge" >"$work/ridge.txt"
+    sed -n '/^The book: the ridge repeater/,/^```$/p' README.md | sed '$d' >"$work/readme.txt"
+    diff "$work/readme.txt" "$work/ridge.txt"
+    say "crate without std; README's example as printed"
+else
+    say 'no cargo'
+fi
+part=done
+echo "c/check.sh: passed: $said"

@@ -1,0 +1,469 @@
+/*
+ * Every call on valid and damaged input, in buffers that can't be left: guard pages|heap CASES CALLS [SEED]
+ *
+ * pages  Each buffer begins or ends at a page that can't be touched. Inputs are read-only. Each call is made
+ *        twice, on other addresses and other former contents; the second time, the buffers that a refusal
+ *        leaves are read-only too. Both answers and what was written must be equal, and all else as before.
+ * heap   Buffers are of malloc and of exact length, and lent ones hold nothing yet: for valgrind.
+ *
+ * CASES holds the books and runs that all inputs start from. The last line gives the numbers of calls and of
+ * repeated refusals. Status 1 if anything is wrong, or if 50,000 calls and more have not met every code.
+ */
+#define _DEFAULT_SOURCE
+#include "load.h"
+#include "rollback.h"
+
+#include <signal.h>
+#include <string.h>
+#include <sys/mman.h>
+#include <sys/wait.h>
+#include <unistd.h>
+
+enum { PAGE = 4096, BOOK_ROOM = 10 * PAGE, CODES = 12 };
+
+static int heap;
+static uint64_t state;
+static unsigned long calls_made, refusals_repeated;
+static unsigned long met[6][CODES];
+static const char *volatile now = "start";
+
+static uint64_t word(void) {
+    uint64_t z = state += 0x9e3779b97f4a7c15u;
+    z = (z ^ (z >> 30)) * 0xbf58476d1ce4e5b9u;
+    z = (z ^ (z >> 27)) * 0x94d049bb133111ebu;
+    return z ^ (z >> 31);
+}
+
+static size_t below(size_t end) {
+    return (size_t)(word() % end);
+}
+
+static void fail(const char *what) {
+    printf("%s: %s, after %lu calls\n", now, what, calls_made);
+    fflush(stdout);
+    _exit(1);
+}
+
+static void on_fault(int signal) {
+    (void)signal;
+    fail("touched a page that it may not touch");
+}
+
+/* A buffer in pages of its own between two that can't be touched. */
+typedef struct {
+    uint8_t *pages;
+    size_t room;
+    uint8_t *at;
+    size_t bytes;
+    uint8_t fill;
+} area;
+
+static area book, run, table, slots, plan, legs, structs, write_table, write_slots, out;
+
+static void map(area *a, size_t room) {
+    uint8_t *all;
+    a->room = room;
+    a->at = NULL;
+    if (heap)
+        return;
+    all = mmap(NULL, room + 2 * PAGE, PROT_NONE, MAP_PRIVATE | MAP_ANONYMOUS, -1, 0);
+    if (all == MAP_FAILED) {
+        perror("mmap");
+        exit(2);
+    }
+    a->pages = all + PAGE;
+}
+
+static void allow(area *a, int protection) {
+    if (!heap && mprotect(a->pages, a->room, protection) != 0) {
+        perror("mprotect");
+        exit(2);
+    }
+}
+
+/* So many bytes at the start or the end of the pages, all of which hold the fill. */
+static void lend(area *a, size_t bytes, int at_end, uint8_t fill) {
+    a->bytes = bytes;
+    a->fill = fill;
+    if (heap) {
+        free(a->at);
+        a->at = bytes == 0 ? NULL : malloc(bytes);
+        if (bytes != 0 && a->at == NULL)
+            exit(2);
+        return;
+    }
+    allow(a, PROT_READ | PROT_WRITE);
+    memset(a->pages, fill, a->room);
+    a->at = at_end ? a->pages + a->room - bytes : a->pages;
+}
+
+/* An input whose first bytes are these. */
+static void give(area *a, const void *contents, size_t given, size_t bytes, int at_end) {
+    lend(a, bytes, at_end, (uint8_t)word());
+    if (given > bytes)
+        given = bytes;
+    if (given != 0)
+        memcpy(a->at, contents, given);
+    allow(a, PROT_READ);
+}
+
+/* Null where there is nothing. */
+static void *pointer(const area *a) {
+    return a->bytes == 0 ? NULL : a->at;
+}
+
+/* Everything in the pages but the buffer's first bytes is as it was. */
+static void kept(const area *a, size_t used) {
+    static uint8_t same[BOOK_ROOM];
+    size_t before;
+    if (heap)
+        return;
+    before = (size_t)(a->at - a->pages);
+    memset(same, a->fill, a->room);
+    if (memcmp(a->pages, same, before) != 0)
+        fail("wrote before a buffer");
+    if (memcmp(a->at + used, same, a->room - before - used) != 0)
+        fail("changed what it leaves");
+}
+
+/* Reads all of it, so that valgrind sees bytes that were never set. */
+static void look(const void *bytes, size_t length) {
+    static volatile unsigned long odd;
+    const uint8_t *at = bytes;
+    size_t i;
+    for (i = 0; i < length; i++)
+        if (at[i] & 1)
+            odd++;
+}
+
+/* What the first of two calls wrote; the second must write the same. */
+typedef struct {
+    uint8_t bytes[BOOK_ROOM];
+    size_t length;
+} copy;
+
+static void wrote(const area *a, size_t used, copy *c, int second) {
+    look(a->at, used);
+    if (!second) {
+        if (used != 0)
+            memcpy(c->bytes, a->at, used);
+        c->length = used;
+    } else if (c->length != used || (used != 0 && memcmp(c->bytes, a->at, used) != 0)) {
+        fail("wrote something else the second time");
+    }
+    kept(a, used);
+}
+
+/* The lengths of the lent buffers, in elements. */
+typedef struct {
+    size_t table, slots, plan, legs, structs, write_table, write_slots, out;
+} lengths;
+
+static size_t length(size_t stated, int is_short) {
+    if (is_short)
+        return below(3) == 0 ? below(stated) : below(8) == 0 ? 0 : stated - 1;
+    return below(4) == 0 ? stated + 1 + below(40) : stated;
+}
+
+static lengths some_lengths(void) {
+    size_t is_short = below(8) == 0 ? 1 + below(4) : 0, writing = below(8) == 0 ? 1 + below(3) : 0;
+    lengths l;
+    l.table = length(ROLLBACK_TABLE_LEN, is_short == 1);
+    l.slots = length(ROLLBACK_SLOTS_LEN, is_short == 2);
+    l.plan = length(ROLLBACK_PLAN_LEN, is_short == 3);
+    l.legs = length(ROLLBACK_LEGS_LEN, is_short == 4);
+    l.structs = length(ROLLBACK_LEG_STRUCTS_LEN, is_short == 4);
+    l.write_table = length(ROLLBACK_TABLE_LEN, writing == 1);
+    l.write_slots = length(ROLLBACK_SLOTS_LEN, writing == 2);
+    l.out = length(ROLLBACK_BOOK_LEN, writing == 3);
+    return l;
+}
+
+static void count(size_t call, uint64_t code, int on_read_only) {
+    calls_made++;
+    if (code >= CODES)
+        fail("gave an unknown code");
+    met[call][code]++;
+    refusals_repeated += on_read_only != 0;
+}
+
+/* The reading of the book at hand. */
+static rollback_reading device;
+
+/* Reading or checking, once or for the second time after the answer `first`. */
+static rollback_reading reading(size_t call, lengths l, int at_end, const rollback_reading *first) {
+    static copy tables, all_slots;
+    rollback_reading r;
+    int second = first != NULL, untouched = second && first->code >= 1 && first->code <= 7;
+    lend(&table, l.table * sizeof(uint64_t), at_end, (uint8_t)word());
+    lend(&slots, l.slots, at_end, (uint8_t)word());
+    if (untouched) {
+        allow(&table, PROT_READ);
+        allow(&slots, PROT_READ);
+    }
+    now = call == 0 ? "rollback_read" : "rollback_check";
+    r = (call == 0 ? rollback_read : rollback_check)(pointer(&book), book.bytes, pointer(&table), l.table,
+                                                     pointer(&slots), l.slots);
+    count(call, r.code, untouched);
+    if (second && (r.code != first->code || r.place != first->place || r.n != first->n || r.m != first->m ||
+                   r.items != first->items))
+        fail("gave another answer the second time");
+    if (r.code != 0 && (r.n != 0 || r.m != 0 || r.items != 0))
+        fail("refused with numbers that are not 0");
+    if (call == 0)
+        device = r;
+    if (r.code == 0 || r.code == 8) {
+        wrote(&table, device.n * device.m * sizeof(uint64_t), &tables, second);
+        wrote(&slots, device.items * ROLLBACK_SLOT_LEN, &all_slots, second);
+    } else {
+        kept(&table, 0);
+        kept(&slots, 0);
+    }
+    return r;
+}
+
+/* Assembling, with the legs as bytes or as structs. */
+static rollback_assembly assembling(int as_structs, lengths l, int at_end, const rollback_assembly *first) {
+    static copy tables, all_slots, commands, all_legs;
+    area *lent_legs = as_structs ? &structs : &legs;
+    rollback_assembly r;
+    int second = first != NULL, refused = second && first->code != 0;
+    lend(&table, l.table * sizeof(uint64_t), at_end, (uint8_t)word());
+    lend(&slots, l.slots, at_end, (uint8_t)word());
+    lend(&plan, l.plan, at_end, (uint8_t)word());
+    lend(lent_legs, as_structs ? l.structs * sizeof(rollback_leg) : l.legs, at_end, (uint8_t)word());
+    if (refused) {
+        allow(&plan, PROT_READ);
+        allow(lent_legs, PROT_READ);
+        if (first->code <= 7) {
+            allow(&table, PROT_READ);
+            allow(&slots, PROT_READ);
+        }
+    }
+    now = as_structs ? "rollback_assemble_legs" : "rollback_assemble";
+    if (as_structs)
+        r = rollback_assemble_legs(pointer(&book), book.bytes, pointer(&run), run.bytes, pointer(&table), l.table,
+                                   pointer(&slots), l.slots, pointer(&plan), l.plan, pointer(&structs), l.structs);
+    else
+        r = rollback_assemble(pointer(&book), book.bytes, pointer(&run), run.bytes, pointer(&table), l.table,
+                              pointer(&slots), l.slots, pointer(&plan), l.plan, pointer(&legs), l.legs);
+    count(as_structs ? 3 : 2, r.code, refused);
+    look(r.fewest, sizeof r.fewest);
+    if (second && (r.code != first->code || r.place != first->place || r.commands != first->commands ||
+                   r.legs != first->legs || memcmp(r.fewest, first->fewest, sizeof r.fewest) != 0))
+        fail("gave another answer the second time");
+    if (r.code != 0 && (r.commands != 0 || r.legs != 0))
+        fail("refused with counts that are not 0");
+    if (r.code == 0 || r.code >= 8) {
+        wrote(&table, device.n * device.m * sizeof(uint64_t), &tables, second);
+        wrote(&slots, device.items * ROLLBACK_SLOT_LEN, &all_slots, second);
+    } else {
+        kept(&table, 0);
+        kept(&slots, 0);
+    }
+    wrote(&plan, r.commands, &commands, second);
+    wrote(lent_legs, r.legs * 3, &all_legs, second);
+    return r;
+}
+
+static rollback_writing writing(uint64_t n, uint64_t m, uint64_t items, lengths l, int at_end,
+                                const rollback_writing *first) {
+    static copy books;
+    rollback_writing r;
+    int second = first != NULL, refused = second && first->code != 0;
+    lend(&out, l.out, at_end, (uint8_t)word());
+    if (refused)
+        allow(&out, PROT_READ);
+    now = "rollback_write";
+    r = rollback_write(n, m, items, pointer(&write_table), l.write_table, pointer(&write_slots), l.write_slots,
+                       pointer(&out), l.out);
+    count(4, r.code, refused);
+    if (second && (r.code != first->code || r.place != first->place || r.length != first->length))
+        fail("gave another answer the second time");
+    if (r.code != 0 && r.length != 0)
+        fail("refused with a length that is not 0");
+    wrote(&out, r.length, &books, second);
+    return r;
+}
+
+/* A few bytes changed, cut off, put in or doubled; the room is BOOK_ROOM. */
+static size_t damage(uint8_t *bytes, size_t length) {
+    size_t at = length == 0 ? 0 : below(length), size = 1 + below(40);
+    switch (below(7)) {
+    case 0:
+        return at;
+    case 1:
+        return length == 0 ? 0 : length - 1 - below(length < 8 ? length : 8);
+    case 2:
+        while (size-- > 0 && length < ROLLBACK_BOOK_LEN + 8)
+            bytes[length++] = (uint8_t)(below(2) ? word() : below(5));
+        return length;
+    case 3:
+        if (size > length - at)
+            size = length - at;
+        if (length + size <= BOOK_ROOM)
+            memmove(bytes + at + size, bytes + at, length - at);
+        else
+            size = 0;
+        return length + size;
+    default:
+        for (size = 1 + below(3); size > 0 && length > 0; size--) {
+            at = below(2) ? below(length) : below(length < 200 ? length : 200);
+            bytes[at] = (uint8_t)(below(2) ? word() : bytes[at] + below(5) - 2);
+        }
+        return length;
+    }
+}
+
+static uint64_t some_number(uint64_t usual) {
+    return below(6) != 0 ? usual : below(2) ? usual + below(5) - 2 : below(2) ? below(100) : word() >> below(64);
+}
+
+/* All calls on one book and run. */
+static void all_calls(const uint8_t *book_bytes, size_t book_length, const uint8_t *run_bytes, size_t run_length) {
+    /* What the last good book was read to. */
+    static uint8_t entries[ROLLBACK_TABLE_LEN * sizeof(uint64_t)], items[ROLLBACK_SLOTS_LEN];
+    static uint64_t numbers[3];
+    lengths l = some_lengths();
+    rollback_reading r;
+    rollback_assembly a;
+    rollback_writing w;
+    rollback_lookup looked;
+    uint64_t n, m, all, number, command, expected;
+    int at_end = (int)below(2), as_structs;
+    give(&book, book_bytes, book_length, book_length, at_end);
+    give(&run, run_bytes, run_length, run_length, at_end);
+    r = reading(0, l, at_end, NULL);
+    if (r.code == 0) {
+        memcpy(entries, table.at, r.n * r.m * sizeof(uint64_t));
+        memcpy(items, slots.at, r.items * ROLLBACK_SLOT_LEN);
+        numbers[0] = r.n;
+        numbers[1] = r.m;
+        numbers[2] = r.items;
+    }
+    reading(0, l, !at_end, &r);
+    r = reading(1, l, at_end, NULL);
+    reading(1, l, !at_end, &r);
+    for (as_structs = 0; as_structs < 2; as_structs++) {
+        a = assembling(as_structs, l, at_end, NULL);
+        assembling(as_structs, l, !at_end, &a);
+    }
+
+    /* Writing it back, with a change now and then. What is ignored is not given. */
+    n = some_number(numbers[0]);
+    m = some_number(numbers[1]);
+    all = some_number(numbers[2]);
+    if (below(5) == 0)
+        entries[below(64)] = (uint8_t)word();
+    if (below(5) == 0)
+        items[below(120)] ^= (uint8_t)(1u << below(8));
+    give(&write_table, entries, n <= 64 && m <= 32 ? n * m * sizeof(uint64_t) : 0,
+         l.write_table * sizeof(uint64_t), at_end);
+    give(&write_slots, items, all <= 64 ? all * ROLLBACK_SLOT_LEN : 0, l.write_slots, at_end);
+    w = writing(n, m, all, l, at_end, NULL);
+    writing(n, m, all, l, !at_end, &w);
+
+    number = below(4) ? below(64) : some_number(63);
+    command = below(4) ? below(16) : some_number(15);
+    expected = number > 63 || command > 15 ? 5 : 0;
+    now = "rollback_ridge";
+    looked = rollback_ridge(number, command);
+    count(5, looked.code, 0);
+    if (looked.code != expected || looked.place != 0 || (expected != 0 && looked.mask != 0))
+        fail("gave a wrong answer");
+}
+
+/* That the pages do what they are for: each of these must end by a fault. */
+static void try_pages(void) {
+    int which, status;
+    pid_t child;
+    for (which = 0; which < 3; which++) {
+        give(&plan, "plan", 4, 4, which == 1);
+        child = fork();
+        if (child == 0) {
+            volatile uint8_t *at = plan.at;
+            if (which == 0)
+                at[0] = at[-1];
+            else if (which == 1)
+                at[0] = at[4];
+            else
+                at[0] = 1;
+            _exit(0);
+        }
+        if (child < 0 || waitpid(child, &status, 0) != child || !WIFSIGNALED(status))
+            fail("pages don't guard");
+    }
+}
+
+int main(int argc, char **argv) {
+    static const char *const names[] = {"read", "check", "assemble", "assemble_legs", "write", "ridge"};
+    static const unsigned has[] = {0x0FF, 0x1FF, 0xFFF, 0xFFF, 0x0A3, 0x021};
+    static uint8_t book_bytes[BOOK_ROOM], run_bytes[BOOK_ROOM];
+    file cases;
+    pair *pairs;
+    size_t at = 0, found = 0, which, call, code, missed = 0;
+    unsigned long wanted;
+    if (argc < 4 || argc > 5 || (strcmp(argv[1], "pages") != 0 && strcmp(argv[1], "heap") != 0)) {
+        fprintf(stderr, "usage: guard pages|heap CASES CALLS [SEED]\n");
+        return 2;
+    }
+    heap = strcmp(argv[1], "heap") == 0;
+    cases = load(argv[2]);
+    wanted = strtoul(argv[3], NULL, 10);
+    state = argc == 5 ? strtoul(argv[4], NULL, 10) : 0;
+    pairs = calloc(cases.length / 4 + 1, sizeof *pairs);
+    while (pairs != NULL && next_case(cases, &at, &pairs[found]))
+        found++;
+    if (found == 0 || at != cases.length) {
+        fprintf(stderr, "%s: no cases\n", argv[2]);
+        return 2;
+    }
+    map(&book, BOOK_ROOM);
+    map(&run, BOOK_ROOM);
+    map(&table, 5 * PAGE);
+    map(&slots, PAGE);
+    map(&plan, PAGE);
+    map(&legs, PAGE);
+    map(&structs, PAGE);
+    map(&write_table, 5 * PAGE);
+    map(&write_slots, PAGE);
+    map(&out, BOOK_ROOM);
+    if (!heap)
+        try_pages();
+    signal(SIGSEGV, on_fault);
+    signal(SIGBUS, on_fault);
+    while (calls_made < wanted) {
+        size_t book_length, run_length;
+        which = below(found);
+        book_length = pairs[which].book;
+        run_length = pairs[which].run;
+        memcpy(book_bytes, pairs[which].bytes, book_length);
+        memcpy(run_bytes, pairs[which].bytes + book_length, run_length);
+        if (below(3) == 0)
+            book_length = damage(book_bytes, book_length);
+        if (below(5) == 0)
+            run_length = damage(run_bytes, run_length);
+        all_calls(book_bytes, book_length, run_bytes, run_length);
+    }
+    for (call = 0; call < 6; call++) {
+        printf("%s:", names[call]);
+        for (code = 0; code < CODES; code++)
+            if (has[call] >> code & 1) {
+                printf(" %lu: %lu", (unsigned long)code, met[call][code]);
+                missed += met[call][code] == 0;
+            } else if (met[call][code] != 0) {
+                printf("\n");
+                fail("gave a code that it doesn't have");
+            }
+        printf("\n");
+    }
+    if (missed != 0 && wanted >= 50000)
+        fail("not every code was met");
+    if (heap)
+        printf("%lu calls\n", calls_made);
+    else
+        printf("%lu calls, %lu of them refusals repeated on read-only buffers\n", calls_made, refusals_repeated);
+    free(pairs);
+    free(cases.bytes);
+    return 0;
+}

@@ -1,0 +1,87 @@
+/* Both headers, in every standard of C and C++: each name once, and the words. Status 1 if one is wrong. */
+#include "rollback_messages.h"
+#include "rollback.h"
+
+#include <stdio.h>
+#include <string.h>
+
+/* What the headers' numbers and types must be to each other; a false one doesn't compile. */
+typedef char slots_of_64_items[ROLLBACK_SLOTS_LEN == 64 * ROLLBACK_SLOT_LEN ? 1 : -1];
+typedef char legs_of_3_bytes[ROLLBACK_LEGS_LEN == 3 * ROLLBACK_LEG_STRUCTS_LEN ? 1 : -1];
+typedef char leg_of_3_bytes[sizeof(rollback_leg) == 3 ? 1 : -1];
+typedef char table_of_largest_device[ROLLBACK_TABLE_LEN == 64 * 32 ? 1 : -1];
+typedef char plan_of_32_items[ROLLBACK_PLAN_LEN == 32 * 8 ? 1 : -1];
+typedef char largest_book[ROLLBACK_BOOK_LEN == 6 + 2048 * 14 + 64 * 38 ? 1 : -1];
+typedef char largest_run[ROLLBACK_RUN_LEN == 4 + 9 + 9 * (ROLLBACK_POINTS_LEN - 1) ? 1 : -1];
+typedef char plain_results[sizeof(rollback_reading) == 40 && sizeof(rollback_writing) == 24 &&
+                                   sizeof(rollback_lookup) == 24 && sizeof(rollback_assembly) == 104
+                               ? 1
+                               : -1];
+
+static int wrong = 0;
+
+static void expect(const char *found, const char *expected) {
+    if (strcmp(found, expected) != 0) {
+        printf("found: %s\nexpected: %s\n", found, expected);
+        wrong = 1;
+    }
+}
+
+static void expect_record(const uint8_t *book, size_t length, uint64_t place, const char *name, uint64_t number) {
+    rollback_record record = rollback_record_at(book, length, place);
+    expect(record.name, name);
+    if (record.number != number) {
+        printf("%s %lu, expected %lu\n", name, (unsigned long)record.number, (unsigned long)number);
+        wrong = 1;
+    }
+}
+
+int main(void) {
+    static uint64_t table[ROLLBACK_TABLE_LEN];
+    static uint8_t slots[ROLLBACK_SLOTS_LEN], plan[ROLLBACK_PLAN_LEN], legs[ROLLBACK_LEGS_LEN];
+    static uint8_t book[ROLLBACK_BOOK_LEN];
+    static rollback_leg structs[ROLLBACK_LEG_STRUCTS_LEN];
+    /* One state, one command that stays there, no items; then bytes of no known kind. */
+    static const uint8_t small[] = {2, 0, 1, 0, 1, 1, 10, 0, 2, 0, 0, 0, 1, 0, 0, 0, 0, 0, 0, 0, 0, 0, 9, 9};
+    static const uint8_t run[] = {9, 0, 4, 0, 0, 1, 0, 0, 0, 0, 0, 0, 0};
+    char version[32];
+    rollback_reading read, checked;
+    rollback_assembly bytes, in_structs;
+    rollback_writing written;
+
+    sprintf(version, "%d.%d.%d", ROLLBACK_VERSION_MAJOR, ROLLBACK_VERSION_MINOR, ROLLBACK_VERSION_PATCH);
+    expect(version, ROLLBACK_VERSION);
+
+    read = rollback_read(small, 20, table, ROLLBACK_TABLE_LEN, slots, ROLLBACK_SLOTS_LEN);
+    checked = rollback_check(small, 20, table, ROLLBACK_TABLE_LEN, slots, ROLLBACK_SLOTS_LEN);
+    bytes = rollback_assemble(small, 20, run, sizeof run, table, ROLLBACK_TABLE_LEN, slots, ROLLBACK_SLOTS_LEN,
+                              plan, ROLLBACK_PLAN_LEN, legs, ROLLBACK_LEGS_LEN);
+    in_structs = rollback_assemble_legs(small, 20, run, sizeof run, table, ROLLBACK_TABLE_LEN, slots,
+                                        ROLLBACK_SLOTS_LEN, plan, ROLLBACK_PLAN_LEN, structs,
+                                        ROLLBACK_LEG_STRUCTS_LEN);
+    written = rollback_write(1, 1, 0, table, ROLLBACK_TABLE_LEN, slots, ROLLBACK_SLOTS_LEN, book, ROLLBACK_BOOK_LEN);
+    if (read.code != ROLLBACK_E_DONE || read.n != 1 || read.m != 1 || read.items != 0 || checked.code != read.code ||
+        bytes.code != ROLLBACK_E_DONE || bytes.fewest[0] != 0 || bytes.fewest[1] != ROLLBACK_NONE ||
+        in_structs.code != bytes.code || written.code != ROLLBACK_E_DONE || written.length != 20 ||
+        memcmp(book, small, 20) != 0 || rollback_ridge(0, 13).mask != 15) {
+        printf("a call gives a wrong answer\n");
+        wrong = 1;
+    }
+
+    expect(rollback_message(ROLLBACK_E_DONE), "done");
+    expect(rollback_message(ROLLBACK_E_TOO_MANY_ITEMS), "a book has at most 64 items");
+    expect(rollback_message(ROLLBACK_E_NO_CHAIN), "no items of the book lead from the run's end back to its start");
+    expect(rollback_message(ROLLBACK_E_NO_CHAIN + 1), "a code that this header doesn't know");
+    expect_record(small, sizeof small, 0, "device", 0);
+    expect_record(small, sizeof small, 6, "move", 0);
+    expect_record(small, sizeof small, 20, "record", 2);
+    expect_record(small, 23, 20, "record", 2);
+    expect_record(small, 8, 6, "record", 1);
+    expect_record(small, 0, 0, "record", 0);
+    table[0] = 2;
+    expect(rollback_write_message(ROLLBACK_E_FIELD, 0, 65, 1, table), "a device has 1 to 64 states and 1 to 32 commands");
+    expect(rollback_write_message(ROLLBACK_E_FIELD, 0, 1, 1, table), "the entry has a state that the device lacks");
+    expect(rollback_write_message(ROLLBACK_E_FIELD, 0, 2, 1, table),
+           "a field of the item is outside its range, or an unused command byte is not 0");
+    return wrong;
+}

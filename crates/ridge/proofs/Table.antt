@@ -5,9 +5,9 @@ use mathlib.Core.Logic.{_↔_}
 use Prim.Native.Nat.{ℕ}
 use native.Mathlib.Omega.{arith}
 use Rattle.base.specs.Sets.{In}
-use Rattle.base.specs.Tables.{cell, TableBy, filled}
+use Rattle.base.specs.Tables.{cell, TableBy}
 use Rattle.ridge.specs.Ridge.{Leads}
-use Rattle.ridge.specs.Lookup.{EqualsRule}
+use Rattle.ridge.specs.Lookup.{filled, EqualsRule}
 use Rattle.ridge.specs.Computed.{ruleMask}
 use Rattle.ridge.proofs.Rules.{rule↔, is-mask}
 

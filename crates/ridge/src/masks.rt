@@ -1,5 +1,4 @@
 // The constant table of 1,024 masks, and how a lookup reads it.
-ghost use mathlib.Core.Path.{_≡_};
 ghost use Prim.Native.Nat.{_<_};
 ghost use Rattle.base.specs.Tables.{cell, RowBy};
 ghost use Rattle.ridge.specs.Lookup.{EqualsRule};
@@ -1052,9 +1051,10 @@ fn row_at(table: &[u64; 1024], state: usize) -> [u64; 16]
     row
 }
 
-// A state's row of the constant table. A function that reads a constant array at a place unknown to the compiler builds it on its stack at each call,
-// all 8,192 bytes. With an arm for each state, and below for each command, all places are known, and the masks stay in read-only memory.
-fn row_of(state: u64) -> [u64; 16]
+// A state's row of the constant table. A function that reads a constant array at a place unknown to the compiler builds all of it on its stack at each
+// call, here 8,192 bytes. With an arm for each state, and this function inlined in its one caller, the places are known, and the table stays in
+// read-only memory.
+pub(crate) fn row_of(state: u64) -> [u64; 16]
     requires { ⌜ state < 64 ⌝ }
     ensures { λ r. ⌜ RowBy 16 (ruleMask state) r ⌝ }
 {
@@ -1124,31 +1124,5 @@ fn row_of(state: u64) -> [u64; 16]
         61 => row_at(&table, 61),
         62 => row_at(&table, 62),
         _ => row_at(&table, 63),
-    }
-}
-
-// The mask of a state and a command.
-pub(crate) fn mask_of(state: u64, command: u64) -> u64
-    requires { ⌜ (state < 64) × (command < 16) ⌝ }
-    ensures { λ r. ⌜ r ≡ ruleMask state command ⌝ }
-{
-    let row = row_of(state);
-    match command {
-        0 => row[0],
-        1 => row[1],
-        2 => row[2],
-        3 => row[3],
-        4 => row[4],
-        5 => row[5],
-        6 => row[6],
-        7 => row[7],
-        8 => row[8],
-        9 => row[9],
-        10 => row[10],
-        11 => row[11],
-        12 => row[12],
-        13 => row[13],
-        14 => row[14],
-        _ => row[15],
     }
 }

@@ -2,8 +2,9 @@
 use mathlib.Core.Path.{refl}
 use Rattle.base.specs.Tests.{pick, both}
 use Rattle.base.specs.Bounded.{union}
-use Rattle.base.specs.Tables.{filled, every, byRule}
+use Rattle.base.specs.Tables.{every, byRule}
 use Rattle.base.proofs.Tables.{table-by}
+use Rattle.ridge.specs.Lookup.{filled}
 use Rattle.ridge.specs.Computed.{single, ruleMask}
 use Rattle.ridge.proofs.Table.{equals-rule}
 use Rattle.ridge.proofs.masks.masks.Statement.{statement}

@@ -12,6 +12,7 @@ use Rattle.ridge.proofs.Table.{table-masks}
 use Rattle.ridge.proofs.masks.row_of.Statement.{statement}
 use Rattle.ridge.proofs.masks.row_of.Tie as tie
 
+-- an arm reads its own state's row, which is the rule's
 arm : {s : ℕ} {table row : List ℕ} (j : ℕ) → EqualsRule table → s < 64 → s ≡ j → RowBy 16 (cell 16 table j) row → RowBy 16 (ruleMask s) row
 arm j e = row-by j (table-masks e)
 

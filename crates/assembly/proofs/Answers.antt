@@ -33,8 +33,8 @@ use Rattle.assembly.specs.declared.chain.Counts.{Counts}
 use Rattle.assembly.specs.Believed.{Believed}
 use Rattle.assembly.specs.Rules.{ruleIn, Moving, Numbered}
 use Rattle.assembly.specs.Walk.{Walkable, Walked}
-use Rattle.assembly.specs.Assembles.{refusal, resultOf, legsBytes, LegForm, inBytes, RoomShort, Room}
-use Rattle.assembly.specs.Contract.{answerOf, plannedBy, roomBy, assembleBy, AssembleAs}
+use Rattle.assembly.specs.Assembles.{refusal, resultOf, legsBytes, LegForm, inBytes, Room}
+use Rattle.assembly.specs.Contract.{RoomShort, answerOf, plannedBy, roomBy, assembleBy, AssembleAs}
 use Rattle.assembly.proofs.Book as of-book
 
 module _ {A E : Type 0} (form : LegForm E) (plan : List ℕ) (legs : List E) (refuse fine : A) where

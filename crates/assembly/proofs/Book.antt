@@ -8,7 +8,7 @@ use lib.ListN.{length, getD, take, drop, replicate, List·getD-append}
 use lib.Seq.{sets}
 use Rattle.base.specs.Tests.{pick}
 use Rattle.base.specs.Bounded.{seek}
-use Rattle.num.specs.Le.{piece}
+use Rattle.num.specs.Parts.{piece}
 use Rattle.num.proofs.Put.{piece-take}
 use Rattle.reversal.specs.Device.{Device}
 use Rattle.reversal.specs.Reversal.{Item}

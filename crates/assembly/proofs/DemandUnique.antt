@@ -88,7 +88,7 @@ module _ {E : Type 0} (form : LegForm E) {book run table slots plan : List ℕ} 
       both k e f z = (
         e ∙ sym f,
         numbers-unique (deviceOf b) (b .items) u (r .fewest) (q .fewest) (numbers-are x (subst (λ (c : ℕ). (c ≡ 0) ⊎ (c ≡ 11)) (sym e) z))
-        (numbers-are y (subst (λ (c : ℕ). (c ≡ 0) ⊎ (c ≡ 11)) (sym f) z)),
+            (numbers-are y (subst (λ (c : ℕ). (c ≡ 0) ⊎ (c ≡ 11)) (sym f) z)),
         λ w. planned-unique form b u (planned x w) (planned y (f ∙ (sym e ∙ w))),
       )
 

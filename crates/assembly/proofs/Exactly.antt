@@ -1,7 +1,7 @@
 -- The contract of assembling gives what 01 says, of books, runs, histories and chains. Assumes nothing.
 use mathlib.Core.Path.{_≡_, refl, sym, _∙_, subst, subst₂}
 use mathlib.Core.Bool.{Bool, true, false}
-use mathlib.Core.Logic.{inl, inr}
+use mathlib.Core.Logic.{inl, inr, ⊎-elim}
 use mathlib.Core.List.{List, [], _∷_}
 use Prim.Native.Nat.{ℕ, _-_, _*_, _≤_, _<_}
 use native.Mathlib.Decide.{decLt}
@@ -30,8 +30,8 @@ use Rattle.checker.proofs.Onward.{BookChecked, book-checked, checked-by, unchec
 use Rattle.runs.specs.Computed.{runOf, runFaulty}
 use Rattle.runs.proofs.Formed.{run-value, run-formed}
 use Rattle.assembly.specs.declared.Assembly.{Assembly}
-use Rattle.assembly.specs.Assembles.{refusal, resultOf, legsBytes, LegForm, inBytes, RoomShort, Room, Assembles, short, unaccepted, faulty, answered}
-use Rattle.assembly.specs.Contract.{answerOf, plannedBy, roomBy, assembleBy, AssembleAs}
+use Rattle.assembly.specs.Assembles.{refusal, resultOf, legsBytes, LegForm, inBytes, Room, Assembles, short, unaccepted, faulty, answered}
+use Rattle.assembly.specs.Contract.{RoomShort, answerOf, plannedBy, roomBy, assembleBy, AssembleAs}
 use Rattle.assembly.proofs.Answers.{either-short, room-enough}
 
 -- ---- a chain has at most 8 commands and one item for each point passed
@@ -165,10 +165,13 @@ module _ {E : Type 0} {form : LegForm E} (even : Even form) {book run t d plan :
     e : (A : Type 0) (refuse fine : A) → refuse ≡ roomBy form plan legs refuse fine
     e A refuse fine = either-short form plan legs refuse fine h
 
+    no-room : Room form plan legs → ⊥
+    no-room l = ⊎-elim (λ (q : length plan < 256). omega (arith, l .0)) (λ (q : length legs < 32 * form .width). omega (arith, l .1)) h
+
     too-short : Assembles form book run t d plan legs r t′ d′ plan′ legs′
     unfolding assembleBy
     too-short =
-        short h (c .result ∙ sym (e _ _ _)) (record { table-same = c .table-is ∙ sym (e _ _ _); slots-same = c .slots-is ∙ sym (e _ _ _) })
+        short no-room (c .result ∙ sym (e _ _ _)) (record { table-same = c .table-is ∙ sym (e _ _ _); slots-same = c .slots-is ∙ sym (e _ _ _) })
         (record { plan-same = c .plan-is ∙ sym (e _ _ _); legs-same = c .legs-is ∙ sym (e _ _ _) })
 
   pub assembles : Assembles form book run t d plan legs r t′ d′ plan′ legs′

@@ -11,7 +11,7 @@ use Rattle.base.specs.Tests.{both}
 use Rattle.base.specs.Bounded.{all}
 use Rattle.base.specs.Masks.{inside}
 use Rattle.base.proofs.Bounded.{all-fails}
-use Rattle.num.specs.Le.{leAt}
+use Rattle.num.specs.Parts.{leAt}
 use Rattle.runs.specs.Computed.{commandOf}
 use Rattle.assembly.specs.Rules.{kAt, sameAt, fitsAt}
 

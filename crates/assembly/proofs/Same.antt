@@ -14,7 +14,7 @@ use Rattle.base.specs.Bounded.{all, least, seek}
 use Rattle.base.specs.Masks.{inside}
 use Rattle.base.proofs.Tests.{test-same, eq-T}
 use Rattle.base.proofs.Bounded.{all-at, all-of, least-same, seek-same}
-use Rattle.num.specs.Le.{leAt}
+use Rattle.num.specs.Parts.{leAt}
 use Rattle.reversal.specs.Device.{Device}
 use Rattle.reversal.specs.Reversal.{Item}
 use Rattle.reversal.specs.Runs.{Run, last, command}

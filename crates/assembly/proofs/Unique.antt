@@ -1,10 +1,8 @@
 -- What 01 says of assembling leaves one answer only, for either form of the legs: the result and all four buffers. Assumes nothing.
 use mathlib.Core.Path.{_≡_, sym, ap, _∙_, subst}
-use mathlib.Core.Logic.{inl, inr}
 use mathlib.Core.List.{List}
 use Prim.Native.Nat.{ℕ}
-use native.Mathlib.Omega.{arith}
-use Rattle.base.specs.Lists.{Bytes, Written}
+use Rattle.base.specs.Lists.{Bytes}
 use Rattle.base.proofs.Lists.{same-written}
 use Rattle.reversal.specs.Runs.{Run, AllowedRun}
 use Rattle.reversal.specs.Answers.{Answer, Answers}
@@ -19,12 +17,8 @@ use Rattle.checker.proofs.Unique.{accepted-book, checks-unique, checked-fine}
 use Rattle.runs.specs.RunBytes.{runBytes}
 use Rattle.runs.proofs.Formed.{one-run}
 use Rattle.assembly.specs.declared.Assembly.{Assembly}
-use Rattle.assembly.specs.Assembles.{LegForm, RoomShort, Room, resultOf, refusal, Left, Assembles, short, unaccepted, faulty, answered}
+use Rattle.assembly.specs.Assembles.{LegForm, Room, resultOf, refusal, Left, Assembles, short, unaccepted, faulty, answered}
 use Rattle.assembly.specs.Demand.{Given}
-
-no-room : {E : Type 0} (form : LegForm E) (plan : List ℕ) (legs : List E) → RoomShort form plan legs → Room form plan legs → ⊥
-no-room form plan legs (inl h) l = omega (arith, l .0)
-no-room form plan legs (inr h) l = omega (arith, l .1)
 
 not-accepted : {book table slots : List ℕ} {c : Reading} {t s : List ℕ} {b : Book} {t′ s′ : List ℕ} → Bytes book
     → Checks book table slots c t s → (c .code ≡ 0 → ⊥) → Checked book table slots b t′ s′ → ⊥
@@ -46,10 +40,10 @@ module _ {E : Type 0} {form : LegForm E} {book run table slots plan : List ℕ} 
     w .plan-same ∙ sym (w′ .plan-same),
     w .legs-same ∙ sym (w′ .legs-same),
   )
-  assembles-unique (short a e k w) (unaccepted room x n e′ w′) = absurd (no-room form plan legs a room)
-  assembles-unique (short a e k w) (faulty room b x n e′ w′) = absurd (no-room form plan legs a room)
-  assembles-unique (short a e k w) (answered room b x u al ub an right left) = absurd (no-room form plan legs a room)
-  assembles-unique (unaccepted room x n e w) (short a e′ k w′) = absurd (no-room form plan legs a room)
+  assembles-unique (short a e k w) (unaccepted room x n e′ w′) = absurd (a room)
+  assembles-unique (short a e k w) (faulty room b x n e′ w′) = absurd (a room)
+  assembles-unique (short a e k w) (answered room b x u al ub an right left) = absurd (a room)
+  assembles-unique (unaccepted room x n e w) (short a e′ k w′) = absurd (a room)
   assembles-unique (unaccepted room x n e w) (unaccepted room′ x′ n′ e′ w′) =
       let (c, i, j) = checks-unique h x x′ in (
         e ∙ (ap (λ (y : Reading). refusal (y .code) (y .place)) c ∙ sym e′),
@@ -60,7 +54,7 @@ module _ {E : Type 0} {form : LegForm E} {book run table slots plan : List ℕ} 
       )
   assembles-unique (unaccepted room x n e w) (faulty room′ b k m e′ w′) = absurd (not-accepted h x n k)
   assembles-unique (unaccepted room x n e w) (answered room′ b k u al ub an right left) = absurd (not-accepted h x n k)
-  assembles-unique (faulty room b k n e w) (short a e′ k′ w′) = absurd (no-room form plan legs a room)
+  assembles-unique (faulty room b k n e w) (short a e′ k′ w′) = absurd (a room)
   assembles-unique (faulty room b k n e w) (unaccepted room′ x m e′ w′) = absurd (not-accepted h x m k)
   assembles-unique (faulty room b k n e w) (faulty room′ b′ k′ n′ e′ w′) =
       let (x, i, j) = same-filled (k .filled) (k′ .filled) in
@@ -68,7 +62,7 @@ module _ {E : Type 0} {form : LegForm E} {book run table slots plan : List ℕ} 
   assembles-unique (faulty room b k n e w) (answered room′ b′ k′ u al ub an right left) =
       let (x, i, j) = same-filled (k .filled) (k′ .filled) in
       absurd (n (u, subst (λ (y : Book). AllowedRun (deviceOf y) u) (sym x) al, ub))
-  assembles-unique (answered room b k u al ub an right left) (short a e′ k′ w′) = absurd (no-room form plan legs a room)
+  assembles-unique (answered room b k u al ub an right left) (short a e′ k′ w′) = absurd (a room)
   assembles-unique (answered room b k u al ub an right left) (unaccepted room′ x m e′ w′) = absurd (not-accepted h x m k)
   assembles-unique (answered room b k u al ub an right left) (faulty room′ b′ k′ n e′ w′) =
       let (x, i, j) = same-filled (k .filled) (k′ .filled) in
@@ -86,7 +80,7 @@ module _ {E : Type 0} {form : LegForm E} {book run table slots plan : List ℕ} 
   -- where the buffers are long enough, for a book and a run that are known, the answer is theirs
   pub given-answer : Assembles form book run table slots plan legs r t s p l → Room form plan legs → Long table slots → {b : Book} {u : Run} → Given book run b u
       → (a : Answer) × Answers (deviceOf b) (b .items) u a × Left form a plan legs r p l
-  given-answer (short a e k w) room long g = absurd (no-room form plan legs a room)
+  given-answer (short a e k w) room long g = absurd (a room)
   given-answer (unaccepted room′ x n e w) room long g = absurd (n (ap (λ (y : Reading). y .code) (checked-fine h x long (g .accepted) .0)))
   given-answer (faulty room′ b′ k n e w) room long {b} {u} g =
       let x : b ≡ b′ = one-book b b′ (g .accepted .allowed) (k .filled .allowed) (g .accepted .bytes ∙ sym (k .filled .bytes)) in

@@ -5,7 +5,8 @@ use Prim.Native.Nat.{ℕ, zero, suc, _+_, _-_, _*_, _≤_, _<_}
 use native.Mathlib.Omega.{arith}
 use lib.ListN.{length, getD, length-append}
 use lib.Seq.{sets, length-sets}
-use Rattle.num.specs.Le.{bytesLe, piece}
+use Rattle.num.specs.Le.{bytesLe}
+use Rattle.num.specs.Parts.{piece}
 use Rattle.num.proofs.Le.{byte-one}
 use Rattle.num.proofs.Put.{sets-append, length-piece}
 use Rattle.assembly.specs.Rules.{kAt, rAt}

@@ -1,9 +1,8 @@
 -- What assembling answers and leaves in the lent buffers (01, "Chains and plans" and its table of codes), for the reader.
 -- Assumes nothing: these are definitions.
 use mathlib.Core.Path.{_≡_}
-use mathlib.Core.Logic.{_⊎_}
 use mathlib.Core.List.{List, [], _∷_}
-use Prim.Native.Nat.{ℕ, _*_, _≤_, _<_}
+use Prim.Native.Nat.{ℕ, _*_, _≤_}
 use lib.ListN.{length, replicate}
 use Rattle.base.specs.Lists.{Written}
 use Rattle.reversal.specs.Runs.{Run, AllowedRun}
@@ -39,9 +38,6 @@ abbrev pub inBytes : LegForm ℕ
 inBytes = record { width = 3; held = legsBytes }
 
 -- "a plan buffer (256 bytes) and 32 legs"
-abbrev pub RoomShort : {E : Type 0} → LegForm E → List ℕ → List E → Type 0
-RoomShort form plan legs = (length plan < 256) ⊎ (length legs < 32 * form .width)
-
 abbrev pub Room : {E : Type 0} → LegForm E → List ℕ → List E → Type 0
 Room form plan legs = (256 ≤ length plan) × (32 * form .width ≤ length legs)
 
@@ -59,7 +55,7 @@ pub record Left {E : Type 0} (form : LegForm E) (a : Answer) (plan : List ℕ) (
 pub data Assembles {E : Type 0} (form : LegForm E) (book run table slots plan : List ℕ) (legs : List E) (result : Assembly) (table′ slots′ plan′ : List ℕ)
     (legs′ : List E) : Type 0 where
   -- "1, 0: a lent buffer shorter than stated; all untouched"
-  short : RoomShort form plan legs → result ≡ refusal 1 0 → Kept table slots table′ slots′ → Untouched plan legs plan′ legs′
+  short : (Room form plan legs → ⊥) → result ≡ refusal 1 0 → Kept table slots table′ slots′ → Untouched plan legs plan′ legs′
       → Assembles form book run table slots plan legs result table′ slots′ plan′ legs′
   -- "then .. 8": what checking refuses, with its code and place, and table and slots as checking leaves them
   unaccepted : Room form plan legs → {c : Reading} → Checks book table slots c table′ slots′ → (c .code ≡ 0 → ⊥) → result ≡ refusal (c .code) (c .place)

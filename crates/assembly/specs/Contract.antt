@@ -1,6 +1,7 @@
 -- What assembling answers and leaves in the lent buffers, computed, over checking's chain of tests. proofs/Exactly ties it to specs/Assembles.
 -- Assumes nothing: these are definitions.
 use mathlib.Core.Path.{_≡_}
+use mathlib.Core.Logic.{_⊎_}
 use mathlib.Core.List.{List}
 use Prim.Native.Nat.{ℕ, _*_, _<_}
 use lib.ListN.{length}
@@ -25,6 +26,10 @@ answerOf b run = answer (deviceOf b) (b .items) (runOf run)
 -- of an accepted book: code 9 for a faulty run, else `fine`
 abbrev pub plannedBy : {A : Type 0} → List ℕ → (ℕ → ℕ → A) → (Answer → A) → Book → A
 plannedBy run refuse fine b = pick (runFaulty (b .n) (b .m) run) (refuse 9 0) (fine (answerOf b run))
+
+-- plan or legs are shorter than stated
+abbrev pub RoomShort : {E : Type 0} → LegForm E → List ℕ → List E → Type 0
+RoomShort form plan legs = (length plan < 256) ⊎ (length legs < 32 * form .width)
 
 -- plan and legs are long enough, or `refuse`
 unfoldable pub roomBy : {A E : Type 0} → LegForm E → List ℕ → List E → A → A → A

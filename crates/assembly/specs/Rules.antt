@@ -9,7 +9,7 @@ use lib.ListN.{getD, length, replicate}
 use Rattle.base.specs.Tests.{both}
 use Rattle.base.specs.Bounded.{all, least, seek}
 use Rattle.base.specs.Masks.{inside}
-use Rattle.num.specs.Le.{leAt}
+use Rattle.num.specs.Parts.{leAt}
 use Rattle.reversal.specs.Chains.{none}
 use Rattle.reversal.specs.Computed.Least.{Rule, via, leasts, leastAt, begins}
 use Rattle.runs.specs.Computed.{commandOf}

@@ -5,7 +5,7 @@ use mathlib.Core.List.{List, [], _∷_, _++_}
 use Prim.Native.Nat.{ℕ, zero, suc, _+_, _-_, _*_, _≤_, _<_}
 use lib.ListN.{getD, length}
 use lib.Seq.{sets}
-use Rattle.num.specs.Le.{piece}
+use Rattle.num.specs.Parts.{piece}
 use Rattle.assembly.specs.Rules.{kAt, rAt}
 use Rattle.assembly.specs.declared.chain.Counts.{Counts}
 

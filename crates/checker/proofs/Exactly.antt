@@ -28,9 +28,10 @@ use Rattle.book.proofs.Codes.{refusal-codes}
 use Rattle.book.proofs.Table.{table-read}
 use Rattle.book.proofs.Slots.{slots-read}
 use Rattle.reader.specs.declared.Reading.{Reading}
-use Rattle.reader.specs.Reads.{refusal, done, Short, Long, Kept, Filled}
+use Rattle.reader.specs.Reads.{refusal, done, Long, Kept, Filled}
 use Rattle.reader.specs.Reads as reads
-use Rattle.reader.proofs.Exactly.{Way, by-short, by-fault, by-book, way, when-short, when-faulty, when-fine}
+use Rattle.reader.specs.Contract.{Short}
+use Rattle.reader.proofs.Exactly.{Way, by-short, by-fault, by-book, way, when-short, when-faulty, when-fine, not-both}
 use Rattle.checker.specs.Checks.{placeOf, FirstWrong, Checks, unread, wrong, fine}
 use Rattle.checker.specs.Contract.{wrongItem, judgedBy, checkBy, CheckAs}
 
@@ -132,7 +133,7 @@ module _ {s t d : List ℕ} {r : Reading} {t′ d′ : List ℕ} (c : CheckAs s 
           fine b (record { filled = filled l b a same e; accepted = all-accepted b a (omega arith) }) (result-fine l b e (omega arith))
 
       go : Way s t d → Checks s t d r t′ d′
-      go (by-short h) = unread (reads.short h (result-short h) (kept-short h)) (λ z. omega (arith, code-of (result-short h)))
+      go (by-short h) = unread (reads.short (not-both t d h) (result-short h) (kept-short h)) (λ z. omega (arith, code-of (result-short h)))
       go (by-fault l code place e) =
           let f = refused-exactly s code place (c .bytes) .0 e in
           unread (reads.faulty l f (result-faulty l code place e) (kept-faulty l code place e))

@@ -13,7 +13,6 @@ use Rattle.book.proofs.Unique.{same-entry, one-book, not-refused}
 use Rattle.book.proofs.RoundTrip.{read-holds}
 use Rattle.reader.specs.declared.Reading.{Reading}
 use Rattle.reader.specs.Reads.{done, Long, Filled, Reads, short, faulty, fine}
-use Rattle.reader.proofs.Unique.{not-both}
 use Rattle.writer.specs.declared.Writing.{Writing}
 use Rattle.writer.specs.Writes.{LongEnough, BookWritten, Writes}
 use Rattle.writer.proofs.Answers.{held-written}
@@ -79,7 +78,7 @@ read-back {book} {table} {slots} {r} {table′} {slots′} h reads n m items t s
         }
 
     go : Reads book table slots r table′ slots′ → GivenBack n m items t s r table′ slots′
-    go (short a q k) = absurd (not-both table slots a l)
+    go (short a q k) = absurd (a l)
     go (faulty _ f q k) = absurd (not-refused book h f b allowed same)
     go (fine b′ f q) =
         let y : b′ ≡ b = one-book b′ b (f .allowed) allowed (f .bytes ∙ sym same) in

@@ -19,7 +19,6 @@ use Rattle.book.proofs.Unique.{one-book, not-refused}
 use Rattle.reader.specs.declared.Reading.{Reading}
 use Rattle.reader.specs.Reads.{done, Long, Filled, Reads, short, faulty, fine}
 use Rattle.reader.specs.Cases.{QRead}
-use Rattle.reader.proofs.Unique.{not-both}
 
 pub bytes-Q : Bytes bytesQ
 unfolding allBelow pick less
@@ -28,7 +27,7 @@ bytes-Q = all-on 256 bytesQ refl
 module _ {table slots : List ℕ} {r : Reading} {table′ slots′ : List ℕ} where
   -- what is read is Q's book
   read-Q : Reads bytesQ table slots r table′ slots′ → Long table slots → (r ≡ done bookQ) × Filled bytesQ table slots bookQ table′ slots′
-  read-Q (short a e k) l = absurd (not-both table slots a l)
+  read-Q (short a e k) l = absurd (a l)
   read-Q (faulty l f e k) _ = absurd (not-refused bytesQ bytes-Q f bookQ allowed-bookQ bytes-bookQ)
   read-Q (fine b f e) l =
       let x : b ≡ bookQ = one-book b bookQ (f .allowed) allowed-bookQ (f .bytes ∙ sym bytes-bookQ) in

@@ -17,8 +17,8 @@ use Rattle.book.proofs.Codes.{refusal-codes}
 use Rattle.book.proofs.Table.{table-read}
 use Rattle.book.proofs.Slots.{slots-read}
 use Rattle.reader.specs.declared.Reading.{Reading}
-use Rattle.reader.specs.Reads.{refusal, done, Short, Long, Reads, short, faulty, fine}
-use Rattle.reader.specs.Contract.{readBy, ReadAs}
+use Rattle.reader.specs.Reads.{refusal, done, Long, Reads, short, faulty, fine}
+use Rattle.reader.specs.Contract.{Short, readBy, ReadAs}
 use Rattle.reader.proofs.Answers.{short-table, short-slots, fine-book}
 use Rattle.reader.proofs.Answers as answers
 
@@ -100,12 +100,16 @@ module _ {s t d : List ℕ} {r : Reading} {t′ d′ : List ℕ} (c : ReadAs s t
       go (by-book l b e) = absurd (n (ap (λ (x : Reading). x .code) (c .result ∙ when-fine s t d refusal done l b e)))
 
 -- ---- what 01 says
+pub not-both : (t d : List ℕ) → Short t d → Long t d → ⊥
+not-both t d (inl h) l = omega (arith, l .0)
+not-both t d (inr h) l = omega (arith, l .1)
+
 pub reads : {s t d : List ℕ} {r : Reading} {t′ d′ : List ℕ} → ReadAs s t d r t′ d′ → Reads s t d r t′ d′
 reads {s} {t} {d} {r} {t′} {d′} c = go (way s t d)
   where
     go : Way s t d → Reads s t d r t′ d′
     go (by-short h) =
-        short h (c .result ∙ when-short s t d refusal done h)
+        short (not-both t d h) (c .result ∙ when-short s t d refusal done h)
         (record { table-same = c .table ∙ when-short s t d _ _ h; slots-same = c .slots ∙ when-short s t d _ _ h })
     go (by-fault l code place e) =
         faulty l (refused-exactly s code place (c .bytes) .0 e) (c .result ∙ when-faulty s t d refusal done l code place e)

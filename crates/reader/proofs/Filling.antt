@@ -8,7 +8,8 @@ use lib.Seq.{sets, take-at, drop-at, take-all, drop-drop}
 use Rattle.base.specs.Lists.{Each}
 use Rattle.base.specs.Tests.{pick}
 use Rattle.base.specs.Compare.{same}
-use Rattle.num.specs.Le.{bytesLe, piece}
+use Rattle.num.specs.Le.{bytesLe}
+use Rattle.num.specs.Parts.{piece}
 use Rattle.num.proofs.Le.{length-bytesLe}
 use Rattle.num.proofs.Put.{piece-take}
 use Rattle.reversal.specs.Device.{Device}

@@ -9,7 +9,7 @@ use lib.ListN.{length, getD, set, take, drop, length-set}
 use lib.Seq.{sets, length-sets}
 use Rattle.base.specs.Tests.{pick}
 use Rattle.base.specs.Compare.{same}
-use Rattle.num.specs.Le.{leAt}
+use Rattle.num.specs.Parts.{leAt}
 use Rattle.num.proofs.Put.{sets-append}
 use Rattle.book.specs.Parse.{Row, cut, moveOf, movesIn, itemOf, itemsIn}
 use Rattle.book.specs.Parse.Row.{End, Torn, More}

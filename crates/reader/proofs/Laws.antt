@@ -11,7 +11,7 @@ use lib.ListN.{length, getD, take, drop, drop-of-length-le}
 use lib.Seq.{drop-cons, drop-drop}
 use Rattle.base.specs.Tests.{pick}
 use Rattle.base.specs.Compare.{less}
-use Rattle.num.specs.Le.{le, leAt}
+use Rattle.num.specs.Parts.{le, leAt}
 use Rattle.book.specs.Parse.{allBelow, moveOf, itemOf}
 use Rattle.reader.specs.Judged.{Counted, moved}
 

@@ -6,7 +6,8 @@ use native.Mathlib.Omega.{arith}
 use lib.ListN.{length, getD, set, replicate, length-append, length-replicate}
 use lib.Seq.{sets, set-out}
 use Rattle.base.proofs.Picks.{same-yes, same-no}
-use Rattle.num.specs.Le.{bytesLe, piece, leAt}
+use Rattle.num.specs.Le.{bytesLe}
+use Rattle.num.specs.Parts.{piece, leAt}
 use Rattle.num.proofs.Put.{sets-append, length-piece}
 use Rattle.book.specs.Buffers.{zeroed}
 use Rattle.reader.specs.Filling.{slotHead, slotTail, rawSlot, moveStored, slotStored}

@@ -1,6 +1,7 @@
 -- What reading answers and leaves in the lent table and slots, computed: one chain of tests for the result and each buffer.
 -- proofs/Exactly ties it to the definitions of 01. Assumes nothing: these are definitions.
 use mathlib.Core.Path.{_≡_}
+use mathlib.Core.Logic.{_⊎_}
 use mathlib.Core.List.{List}
 use Prim.Native.Nat.{ℕ, _<_}
 use lib.ListN.{length}
@@ -13,6 +14,10 @@ use Rattle.book.specs.Parse.Parsed.{Ok, Refused}
 use Rattle.book.specs.Buffers.{tableOf, slotsOf}
 use Rattle.reader.specs.declared.Reading.{Reading}
 use Rattle.reader.specs.Reads.{refusal, done}
+
+-- one of the lent buffers is shorter than stated
+abbrev pub Short : List ℕ → List ℕ → Type 0
+Short t d = (length t < 2048) ⊎ (length d < 2176)
 
 abbrev pub onParsed : {A : Type 0} → Parsed → (ℕ → ℕ → A) → (Book → A) → A
 onParsed (Ok b) refuse fine = fine b

@@ -6,7 +6,7 @@ use lib.ListN.{getD, set, replicate}
 use lib.Seq.{sets}
 use Rattle.base.specs.Tests.{pick}
 use Rattle.base.specs.Compare.{same}
-use Rattle.num.specs.Le.{piece, leAt}
+use Rattle.num.specs.Parts.{piece, leAt}
 use Rattle.book.specs.Parse.{Row, cut, movesIn}
 use Rattle.book.specs.Parse.Row.{End, Torn, More}
 use Rattle.book.specs.Buffers.{filled}

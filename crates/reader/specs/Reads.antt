@@ -1,9 +1,8 @@
 -- What reading answers and leaves in the lent table and slots (01, "The book's bytes" and its table of codes), for the reader.
 -- Assumes nothing: these are definitions.
 use mathlib.Core.Path.{_≡_}
-use mathlib.Core.Logic.{_⊎_}
 use mathlib.Core.List.{List}
-use Prim.Native.Nat.{ℕ, _≤_, _<_}
+use Prim.Native.Nat.{ℕ, _≤_}
 use lib.ListN.{length}
 use Rattle.book.specs.Book.{Book, AllowedBook, bytesOf}
 use Rattle.book.specs.Lent.{TableRead, SlotsRead}
@@ -18,9 +17,6 @@ abbrev pub done : Book → Reading
 done b = record { code = 0; place = 0; n = b .n; m = b .m; items = length (b .items) }
 
 -- "a table (2,048 entries of 64 bits ..) and slots (64 of 34 bytes ..)"
-abbrev pub Short : List ℕ → List ℕ → Type 0
-Short table slots = (length table < 2048) ⊎ (length slots < 2176)
-
 abbrev pub Long : List ℕ → List ℕ → Type 0
 Long table slots = (2048 ≤ length table) × (2176 ≤ length slots)
 
@@ -40,7 +36,7 @@ pub record Filled (book table slots : List ℕ) (b : Book) (table′ slots′ : 
 -- of a book, a table and slots at entry; the result, the table and the slots at exit
 pub data Reads (book table slots : List ℕ) (result : Reading) (table′ slots′ : List ℕ) : Type 0 where
   -- "1, 0: a lent buffer shorter than stated; all untouched"
-  short : Short table slots → result ≡ refusal 1 0 → Kept table slots table′ slots′ → Reads book table slots result table′ slots′
+  short : (Long table slots → ⊥) → result ≡ refusal 1 0 → Kept table slots table′ slots′ → Reads book table slots result table′ slots′
   -- "then record by record 2, 3, 7, 4, 5, 6, the first faulty record deciding"; "untouched"
   faulty : Long table slots → {code place : ℕ} → Refusal book code place → result ≡ refusal code place → Kept table slots table′ slots′
       → Reads book table slots result table′ slots′

@@ -8,7 +8,8 @@ use native.Mathlib.Omega.{arith}
 use lib.ListN.{length, getD, take, length-append, length-take}
 use lib.Seq.{sets, take-all, take-nil, take-take}
 use Rattle.base.proofs.Picks.{same-yes, same-no}
-use Rattle.num.specs.Le.{bytesLe, piece}
+use Rattle.num.specs.Le.{bytesLe}
+use Rattle.num.specs.Parts.{piece}
 use Rattle.num.proofs.Put.{sets-append, piece-take}
 use Rattle.io.specs.Counts.{Counts}
 use Rattle.io.specs.Digits.{digits, Fewest}

@@ -4,7 +4,7 @@ ghost use mathlib.Core.List.{[], _∷_};
 ghost use Prim.Native.Nat.{_+_, _*_, _^_, _<_, _≤_, min};
 ghost use lib.ListN.{length};
 ghost use lib.Seq.{sets};
-ghost use Rattle.num.specs.Le.{piece};
+ghost use Rattle.num.specs.Parts.{piece};
 ghost use Rattle.show.specs.Show.{field, line, linesOf, planned};
 ghost use Rattle.show.specs.Written.{Written};
 

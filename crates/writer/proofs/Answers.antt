@@ -154,7 +154,7 @@ module _ {n m items : ℕ} {table slots out : List ℕ} where
         = subst (λ (x : Book). BookWritten (bytesOf x) out r out′) (sym (held-book a k (long .table-size) (long .slots-size))) v in (
           s .answer ∙ fine-is n m items table slots out h _ _ long w,
           same-written (s .bytes) (book-stored _ out (book-room n m items table slots out h long w) .bytes)
-          ∙ fine-is n m items table slots out h _ _ long w,
+              ∙ fine-is n m items table slots out h _ _ long w,
         )
 
     -- what 01 says of writing leaves one answer only

@@ -14,7 +14,7 @@ use Rattle.base.specs.Masks.{clearFrom}
 use Rattle.base.proofs.Picks as P
 use Rattle.states.specs.declared.StateSet.{StateSet}
 use Rattle.states.specs.StateSets.{setOf}
-use Rattle.num.specs.Le.{piece}
+use Rattle.num.specs.Parts.{piece}
 use Rattle.book.specs.Parse.{allBelow}
 
 -- ---- all bytes below m

@@ -14,7 +14,7 @@ use Rattle.base.proofs.Picks.{tests}
 use Rattle.base.proofs.Parts.{each-replicate}
 use Rattle.reversal.specs.Device.{Device}
 use Rattle.reversal.specs.Reversal.{AllowedItem}
-use Rattle.num.specs.Le.{leAt, piece}
+use Rattle.num.specs.Parts.{leAt, piece}
 use Rattle.num.proofs.Put.{length-piece, piece-take}
 use Rattle.book.specs.Buffers.{itemAt, SlotFine}
 use Rattle.book.specs.Parse.{allBelow}

@@ -8,7 +8,7 @@ use Rattle.base.specs.Tests.{pick}
 use Rattle.base.specs.Compare.{less}
 use Rattle.base.specs.Bounded.{seek}
 use Rattle.base.specs.Masks.{clearFrom}
-use Rattle.num.specs.Le.{leAt, piece}
+use Rattle.num.specs.Parts.{leAt, piece}
 use Rattle.book.specs.Parse.{allBelow}
 
 -- the slot at q, with counts k and r

@@ -4,7 +4,7 @@ ghost use mathlib.Core.Path.{_≡_};
 ghost use Prim.Native.Nat.{_+_, _*_, _<_, _≤_, _^_};
 ghost use lib.ListN.{getD};
 ghost use Rattle.base.specs.Masks.{clearFrom};
-ghost use Rattle.num.specs.Le.{leAt, piece};
+ghost use Rattle.num.specs.Parts.{leAt, piece};
 ghost use Rattle.book.specs.Parse.{allBelow};
 ghost use Rattle.writer.specs.Checks.{fieldsFine, slotFine, lowestEntry, lowestSlot};
 

@@ -5,7 +5,8 @@ use Prim.Native.Nat.{ℕ, _+_}
 use native.Mathlib.Omega.{arith}
 use lib.ListN.{length-append}
 use lib.Seq.{sets}
-use Rattle.num.specs.Le.{bytesLe, piece}
+use Rattle.num.specs.Le.{bytesLe}
+use Rattle.num.specs.Parts.{piece}
 use Rattle.num.proofs.Le.{length-bytesLe}
 use Rattle.num.proofs.Put.{length-piece}
 use Rattle.writer.specs.Records.{itemTail}

@@ -66,14 +66,6 @@ module _ (b : Book) (a : AllowedBook b) where
   all-accepted h = each-of (Accepted (deviceOf b)) (b .items) absent (λ i l. accepted-before i (omega arith) l)
 
   -- and the other way
-  pub wrong-first : (i : ℕ) → FirstWrong b i → wrongItem b ≡ i
-  wrong-first i f = go (decLt (wrongItem b) i) (decLt i (wrongItem b))
-    where
-      go : Dec (wrongItem b < i) → Dec (i < wrongItem b) → wrongItem b ≡ i
-      go (yes l) y = absurd (first-wrong (omega (arith, f .known)) .wrong (f .before (wrongItem b) l))
-      go (no l) (yes h) = absurd (f .wrong (accepted-before i h (f .known)))
-      go (no l) (no h) = omega arith
-
   pub none-wrong : Each (Accepted (deviceOf b)) (b .items) → length (b .items) ≤ wrongItem b
   none-wrong e = go (decLt (wrongItem b) (length (b .items)))
     where

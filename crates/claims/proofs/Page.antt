@@ -3,9 +3,9 @@
 use mathlib.Core.Path.{_≡_, refl, subst}
 use mathlib.Core.Logic.{_↔_}
 use mathlib.Core.List.{List}
-use Prim.Native.Nat.{ℕ, _+_, _*_, _≤_, _<_, zero-le}
+use Prim.Native.Nat.{ℕ, _+_, _-_, _*_, _≤_, _<_, zero-le}
 use lib.Dec.{T}
-use lib.ListN.{length, getD, take}
+use lib.ListN.{length, getD, take, drop}
 use Rattle.base.specs.Sets.{In, NoBitFrom}
 use Rattle.base.specs.Lists.{Each, Bytes}
 use Rattle.reversal.specs.Device.{Device, Proper, tabled}
@@ -20,7 +20,7 @@ use Rattle.reversal.specs.Computed.Assembly.{fits, numbers, answer}
 use Rattle.reversal.proofs.Paths.{returns↔}
 use Rattle.reversal.proofs.Reversals.{tabled-proper, accepts↔}
 use Rattle.reversal.proofs.Histories.{possible↔, percept-states}
-use Rattle.reversal.proofs.Fitting.{fits↔}
+use Rattle.reversal.proofs.Fitting.{fits↔, fits-possible}
 use Rattle.reversal.proofs.EndToEnd.{chain-undoes}
 use Rattle.reversal.proofs.Assembling.{numbers-right, answer-right, answers-unique}
 use Rattle.reversal.proofs.Cases.{twelve}
@@ -61,7 +61,9 @@ use Rattle.assembly.proofs.assemble.Symbol.{routine as assemble-routine}
 use Rattle.assembly.proofs.assemble.Met.{met as assemble-met}
 use Rattle.ridge.specs.declared.LookupResult.{LookupResult}
 use Rattle.ridge.specs.Lookup.{Looked}
+use Rattle.ridge.specs.Figures.{Figures}
 use Rattle.ridge.proofs.Answers.{looked-unique}
+use Rattle.ridge.proofs.Figures.{figures}
 use Rattle.ridge.proofs.lookup.Symbol.{routine as lookup-routine}
 use Rattle.ridge.proofs.lookup.Met.{met as lookup-met}
 use Rattle.planner.specs.Structs.{inStructs}
@@ -110,6 +112,15 @@ possible d r proper ok = possible↔ d proper r (percept-states d r ok 0 zero-po
 -- and the computed fit is the fit by histories
 pub fitting : (d : Device) (r : Run) → Proper d → AllowedRun d r → (x : Item) (j : ℕ) → j ≤ last r → T (fits d r x j) ↔ Fits d r x j
 fitting d r proper ok = fits↔ d proper r ok
+
+-- which is 01's: its forward commands are the run's there, all possible states at j are in phi, and all at j - k are in psi
+pub fitting-possible : (d : Device) (r : Run) (x : Item) (j : ℕ)
+    → Fits d r x j
+    ↔ ((length (x .forward) ≤ j)
+    × (take (length (x .forward)) (drop (j - length (x .forward)) (r .commands)) ≡ x .forward)
+    × ((s : ℕ) → Possible d r j s → In (x .phi) s)
+    × ((s : ℕ) → Possible d r (j - length (x .forward)) s → In (x .psi) s))
+fitting-possible = fits-possible
 
 -- 3. each of the 33 numbers is the least over all chains from its point, or 65,535 exactly where there is none
 pub fewest : (d : Device) (items : List Item) (r : Run) → Allowed d items r → Numbers d r items (numbers d r items)
@@ -218,6 +229,13 @@ only-answer = answers-unique
 pub cases : Twelve
 cases = twelve
 
+-- Q and two runs as bytes
+pub case-books : book-example.Worked
+case-books = book-cases.worked
+
+pub case-runs : run-example.Worked
+case-runs = run-cases.worked
+
 -- of bytes: Q read and checked, Q5 to Q12 assembled, their legs as bytes and as structs
 pub case-read : QRead
 case-read = q-read
@@ -250,3 +268,7 @@ spoilt-runs = run-cases.spoilt
 
 pub spoilt-writing : write-example.Spoilt
 spoilt-writing = write-cases.spoilt
+
+-- masks of the ridge repeater, worked out by hand
+pub ridge-figures : Figures
+ridge-figures = figures

@@ -42,16 +42,16 @@ pub fn write(n: u64, m: u64, items: u64, table: &[u64], slots: &[u8], out: &mut 
         return refused(1, 0);
     }
     if n < 1 {
-        return refused(5, 0);
+        return refused(5, 0); // no state
     }
     if 64 < n {
-        return refused(5, 0);
+        return refused(5, 0); // too many states
     }
     if m < 1 {
-        return refused(5, 0);
+        return refused(5, 0); // no command
     }
     if 32 < m {
-        return refused(5, 0);
+        return refused(5, 0); // too many commands
     }
     if 64 < items {
         return refused(7, 0);

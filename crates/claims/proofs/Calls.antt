@@ -33,7 +33,8 @@ use Rattle.report.specs.Contract.{ReportAs}
 use Rattle.report.proofs.Exactly.{reports}
 use Rattle.report.proofs.report as report
 use Rattle.claims.specs.Always.{Always}
-use Rattle.claims.specs.Claims.{onRead, onWrite, onAssemble, onLegs, onLookup, onReport, ChecksWorked, WellWritten, Worked, ReadClaims, CheckClaims, WriteClaims, AssembleClaims, LegsClaims, LookupClaims, ReportClaims}
+use Rattle.claims.specs.Claims.{onRead, onWrite, onAssemble, onLegs, onLookup, onReport, WellWritten, ReadClaims, CheckClaims, WriteClaims, AssembleClaims, LegsClaims, LookupClaims, ReportClaims}
+use Rattle.claims.specs.Worked.{ChecksWorked, AssemblesWorked}
 use Rattle.claims.proofs.Weaker.{weaker}
 use Rattle.claims.proofs.RoundTrips.{read-back, write-back}
 
@@ -41,7 +42,6 @@ module _ (ρ : Routine) where
   pub read-claims : Always read.ended ρ (onRead ReadAs) → ReadClaims ρ
   read-claims always =
       record {
-        contract = always;
         says = weaker read.ended ρ (onRead ReadAs) _ (λ κs a r e c. reads c) always;
         zero = weaker read.ended ρ (onRead ReadAs) _ (λ κs a r e c. read-zero↔ (c .bytes) (reads c)) always;
         given-back = weaker read.ended ρ (onRead ReadAs) _ (λ κs a r e c. read-back (c .bytes) (reads c)) always;
@@ -50,60 +50,66 @@ module _ (ρ : Routine) where
   pub check-claims : Always check.ended ρ (onRead CheckAs) → CheckClaims ρ
   check-claims always =
       record {
-        contract = always;
         says = weaker check.ended ρ (onRead CheckAs) _ (λ κs a r e c. checks c) always;
         zero = weaker check.ended ρ (onRead CheckAs) _ (λ κs a r e c. check-zero↔ (c .bytes) (checks c)) always;
         eight = weaker check.ended ρ (onRead CheckAs) _ (λ κs a r e c. eight↔ (c .bytes) (checks c)) always;
-        worked = weaker check.ended ρ (onRead CheckAs) (onRead ChecksWorked) (λ κs a r e c answer judges long. judges .result (checks c) long) always;
       }
 
   pub write-claims : Always write.ended ρ (onWrite WriteAs) → WriteClaims ρ
   write-claims always =
       record {
-        contract = always;
         says = weaker write.ended ρ (onWrite WriteAs) _ (λ κs a r e c. writes c) always;
         zero = weaker write.ended ρ (onWrite WriteAs) _ (λ κs a r e c. writes-zero↔ (c .bytes) (writes c)) always;
         well-formed = weaker write.ended ρ (onWrite WriteAs) (onWrite WellWritten) (λ κs a r e c z. (write-well-formed (writes c) z, write-length (writes c))) always;
         same-bytes = weaker write.ended ρ (onWrite WriteAs) _ (λ κs a r e c. write-back (c .bytes) (writes c)) always;
       }
 
--- a run of the joint table, whatever bytes it came in
-worked-at : {E : Type 0} (form : LegForm E) {book run table slots plan : List ℕ} {legs : List E} {r : Assembly} {table′ slots′ plan′ : List ℕ}
-    {legs′ : List E} → Assembles form book run table slots plan legs r table′ slots′ plan′ legs′
-    → Worked form book run table slots plan legs r table′ slots′ plan′ legs′
-worked-at form {table = table} {slots} {plan} {legs} {r} {table′} {slots′} {plan′} {legs′} x u a give e f room long =
-    give .left (subst₂ (λ (y z : List ℕ). Assembles form y z table slots plan legs r table′ slots′ plan′ legs′) e f x) room long
-
-module _ (ρ : Routine) where
   pub assemble-claims : Always assemble.ended ρ (onAssemble (AssembleAs inBytes)) → AssembleClaims ρ
   assemble-claims always =
       record {
-        contract = always;
         says = weaker assemble.ended ρ (onAssemble (AssembleAs inBytes)) _ (λ κs a r e c. assembles even-bytes c) always;
         demand-three =
             weaker assemble.ended ρ (onAssemble (AssembleAs inBytes)) _ (λ κs a r e c. demand even-bytes (c .bytes) (assembles even-bytes c)) always;
-        worked = weaker assemble.ended ρ (onAssemble (AssembleAs inBytes)) _ (λ κs a r e c. worked-at inBytes (assembles even-bytes c)) always;
       }
 
   pub legs-claims : Always assemble-legs.ended ρ (onLegs (AssembleAs inStructs)) → LegsClaims ρ
   legs-claims always =
       record {
-        contract = always;
         says = weaker assemble-legs.ended ρ (onLegs (AssembleAs inStructs)) _ (λ κs a r e c. assembles even-structs c) always;
         demand-three =
             weaker assemble-legs.ended ρ (onLegs (AssembleAs inStructs)) _
             (λ κs a r e c. demand even-structs (c .bytes) (assembles even-structs c)) always;
-        worked = weaker assemble-legs.ended ρ (onLegs (AssembleAs inStructs)) _ (λ κs a r e c. worked-at inStructs (assembles even-structs c)) always;
       }
 
   pub lookup-claims : Always lookup.ended ρ (onLookup (λ state command r. r ≡ lookupOf state command)) → LookupClaims ρ
   lookup-claims always =
       record {
-        contract = always;
         says =
             weaker lookup.ended ρ (onLookup (λ state command r. r ≡ lookupOf state command)) _ (λ κs a r e. looked (a .0) (a .1 .0) r) always;
       }
 
   pub report-claims : Always report.ended ρ (onReport ReportAs) → ReportClaims ρ
   report-claims always =
-      record { contract = always; says = weaker report.ended ρ (onReport ReportAs) _ (λ κs a r e c. reports c) always }
+      record { says = weaker report.ended ρ (onReport ReportAs) _ (λ κs a r e c. reports c) always }
+
+-- ---- the worked cases, of any routine that keeps the contract
+-- a run of the joint table, whatever bytes it came in
+worked-run : {E : Type 0} (form : LegForm E) {book run table slots plan : List ℕ} {legs : List E} {r : Assembly} {table′ slots′ plan′ : List ℕ}
+    {legs′ : List E} → Assembles form book run table slots plan legs r table′ slots′ plan′ legs′
+    → AssemblesWorked form book run table slots plan legs r table′ slots′ plan′ legs′
+worked-run form {table = table} {slots} {plan} {legs} {r} {table′} {slots′} {plan′} {legs′} x u a give e f room long =
+    give .left (subst₂ (λ (y z : List ℕ). Assembles form y z table slots plan legs r table′ slots′ plan′ legs′) e f x) room long
+
+module _ (ρ : Routine) where
+  pub check-worked : Always check.ended ρ (onRead CheckAs) → Always check.ended ρ (onRead ChecksWorked)
+  check-worked = weaker check.ended ρ (onRead CheckAs) (onRead ChecksWorked) (λ κs a r e c answer judges long. judges .result (checks c) long)
+
+  pub assemble-worked : Always assemble.ended ρ (onAssemble (AssembleAs inBytes)) → Always assemble.ended ρ (onAssemble (AssemblesWorked inBytes))
+  assemble-worked =
+      weaker assemble.ended ρ (onAssemble (AssembleAs inBytes)) (onAssemble (AssemblesWorked inBytes))
+      (λ κs a r e c. worked-run inBytes (assembles even-bytes c))
+
+  pub legs-worked : Always assemble-legs.ended ρ (onLegs (AssembleAs inStructs)) → Always assemble-legs.ended ρ (onLegs (AssemblesWorked inStructs))
+  legs-worked =
+      weaker assemble-legs.ended ρ (onLegs (AssembleAs inStructs)) (onLegs (AssemblesWorked inStructs))
+      (λ κs a r e c. worked-run inStructs (assembles even-structs c))

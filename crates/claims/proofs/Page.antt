@@ -39,6 +39,7 @@ use Rattle.checker.specs.Checks.{Checks}
 use Rattle.checker.specs.Cases.{QChecked}
 use Rattle.checker.proofs.Unique.{checks-unique}
 use Rattle.checker.proofs.Cases.{q-checked}
+use Rattle.checker.proofs.check as check
 use Rattle.checker.proofs.check.Symbol.{routine as check-routine}
 use Rattle.checker.proofs.check.Met.{met as check-met}
 use Rattle.writer.specs.declared.Writing.{Writing}
@@ -57,6 +58,7 @@ use Rattle.assembly.specs.Cases.{Runs, LegRuns}
 use Rattle.assembly.proofs.Unique.{assembles-unique}
 use Rattle.assembly.proofs.DemandUnique.{SamePlan, demand-unique}
 use Rattle.assembly.proofs.Cases.{runs, leg-runs}
+use Rattle.assembly.proofs.assemble as assemble
 use Rattle.assembly.proofs.assemble.Symbol.{routine as assemble-routine}
 use Rattle.assembly.proofs.assemble.Met.{met as assemble-met}
 use Rattle.ridge.specs.declared.LookupResult.{LookupResult}
@@ -77,6 +79,7 @@ use Rattle.planner.proofs.rollback_write.Symbol.{routine as exported-write-rout
 use Rattle.planner.proofs.rollback_write.Met.{met as exported-write-met}
 use Rattle.planner.proofs.rollback_assemble.Symbol.{routine as exported-assemble-routine}
 use Rattle.planner.proofs.rollback_assemble.Met.{met as exported-assemble-met}
+use Rattle.planner.proofs.rollback_assemble_legs as assemble-legs
 use Rattle.planner.proofs.rollback_assemble_legs.Symbol.{routine as assemble-legs-routine}
 use Rattle.planner.proofs.rollback_assemble_legs.Met.{met as assemble-legs-met}
 use Rattle.planner.proofs.rollback_ridge.Symbol.{routine as exported-ridge-routine}
@@ -88,8 +91,10 @@ use Rattle.report.proofs.Unique.{prints-unique}
 use Rattle.report.proofs.Cases.{examples}
 use Rattle.report.proofs.report.Symbol.{routine as report-routine}
 use Rattle.report.proofs.report.Met.{met as report-met}
-use Rattle.claims.specs.Claims.{ReadClaims, CheckClaims, WriteClaims, AssembleClaims, LegsClaims, LookupClaims, ReportClaims}
-use Rattle.claims.proofs.Calls.{read-claims, check-claims, write-claims, assemble-claims, legs-claims, lookup-claims, report-claims}
+use Rattle.claims.specs.Claims.{onRead, onAssemble, onLegs, ReadClaims, CheckClaims, WriteClaims, AssembleClaims, LegsClaims, LookupClaims, ReportClaims}
+use Rattle.claims.specs.Always.{Always}
+use Rattle.claims.specs.Worked.{ChecksWorked, AssemblesWorked}
+use Rattle.claims.proofs.Calls.{read-claims, check-claims, write-claims, assemble-claims, legs-claims, lookup-claims, report-claims, check-worked, assemble-worked, legs-worked}
 
 -- ---- the meaning
 
@@ -254,6 +259,16 @@ runs-in-structs = runs inStructs
 
 pub leg-structs : StructRuns
 leg-structs = struct-runs
+
+-- the same books and runs, of the compiled routines
+pub worked-checking : Always check.ended check-routine (onRead ChecksWorked)
+worked-checking = check-worked check-routine (λ M. check-met)
+
+pub worked-assembling : Always assemble.ended assemble-routine (onAssemble (AssemblesWorked inBytes))
+worked-assembling = assemble-worked assemble-routine (λ M. assemble-met)
+
+pub worked-legs : Always assemble-legs.ended assemble-legs-routine (onLegs (AssemblesWorked inStructs))
+worked-legs = legs-worked assemble-legs-routine (λ M. assemble-legs-met)
 
 -- the program's text for Q5, Q8, Q9 and Q11
 pub printed : Examples

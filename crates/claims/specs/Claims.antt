@@ -7,39 +7,27 @@ use Prim.Native.Nat.{ℕ, _*_, _<_, _≤_}
 use prog.Routine.{Routine}
 use lib.ListN.{length, getD, take}
 use denote.Ref.{now}
-use Rattle.reversal.specs.Runs.{Run}
-use Rattle.reversal.specs.Answers.{Answer}
 use Rattle.book.specs.Book.{Book, AllowedBook, bytesOf, WellFormed}
 use Rattle.book.specs.Lent.{Holds}
-use Rattle.book.specs.Example.{bytesQ}
 use Rattle.reader.specs.declared.Reading.{Reading}
 use Rattle.reader.specs.Reads.{Long, Reads}
-use Rattle.reader.specs.Contract.{ReadAs}
 use Rattle.reader.proofs.read as read
 use Rattle.checker.specs.Checks.{AcceptedBook, placeOf, FirstWrong, Checks}
-use Rattle.checker.specs.Cases.{Judges}
-use Rattle.checker.specs.Contract.{CheckAs}
 use Rattle.checker.proofs.check as check
 use Rattle.writer.specs.declared.Writing.{Writing}
 use Rattle.writer.specs.Writes.{LongEnough, BookWritten, Writes}
-use Rattle.writer.specs.Contract.{WriteAs}
 use Rattle.writer.proofs.write as write
-use Rattle.runs.specs.RunBytes.{runBytes}
 use Rattle.assembly.specs.declared.Assembly.{Assembly}
-use Rattle.assembly.specs.Assembles.{LegForm, inBytes, Room, Left, Assembles}
-use Rattle.assembly.specs.Cases.{BytesGive}
-use Rattle.assembly.specs.Contract.{AssembleAs}
+use Rattle.assembly.specs.Assembles.{LegForm, inBytes, Assembles}
 use Rattle.assembly.specs.Demand.{Demand}
 use Rattle.assembly.proofs.assemble as assemble
 use Rattle.ridge.specs.declared.LookupResult.{LookupResult}
 use Rattle.ridge.specs.Lookup.{Looked}
-use Rattle.ridge.specs.Computed.{lookupOf}
 use Rattle.ridge.proofs.lookup as lookup
 use Rattle.planner.specs.declared.Leg.{Leg}
 use Rattle.planner.specs.Structs.{inStructs}
 use Rattle.planner.proofs.rollback_assemble_legs as assemble-legs
 use Rattle.report.specs.Prints.{Reports}
-use Rattle.report.specs.Contract.{ReportAs}
 use Rattle.report.proofs.report as report
 use Rattle.claims.specs.Always.{After, Always}
 
@@ -101,8 +89,6 @@ abbrev pub ReadsZero : Read
 ReadsZero book table slots r table′ slots′ = (r .code ≡ 0) ↔ (Long table slots × WellFormed book)
 
 pub record ReadClaims (ρ : Routine) : Type 2 where
-  -- its contract: the result and each buffer at exit, computed
-  pub contract : Always read.ended ρ (onRead ReadAs)
   -- 01: "Reading fills a table .. and slots .."; its codes 1 to 7 in their order, and what each leaves behind
   pub says : Always read.ended ρ (onRead Reads)
   pub zero : Always read.ended ρ (onRead ReadsZero)
@@ -117,17 +103,11 @@ abbrev pub ChecksEight : Read
 ChecksEight book table slots r table′ slots′ =
     (r .code ≡ 8) ↔ (Long table slots × ((b : Book) × AllowedBook b × (bytesOf b ≡ book) × ((i : ℕ) × FirstWrong b i × (r .place ≡ placeOf b i))))
 
--- the worked cases of checker/specs/Cases, of a call
-abbrev pub ChecksWorked : Read
-ChecksWorked book table slots r table′ slots′ = (answer : Reading) → Judges book answer → Long table slots → r ≡ answer
-
 pub record CheckClaims (ρ : Routine) : Type 2 where
-  pub contract : Always check.ended ρ (onRead CheckAs)
   -- 01: "checking a book is reading and 8"
   pub says : Always check.ended ρ (onRead Checks)
   pub zero : Always check.ended ρ (onRead ChecksZero)
   pub eight : Always check.ended ρ (onRead ChecksEight)
-  pub worked : Always check.ended ρ (onRead ChecksWorked)
 
 -- writing answers 0 exactly where the buffers are long enough and table and slots hold an allowed book
 abbrev pub WritesZero : Write
@@ -138,44 +118,31 @@ abbrev pub WellWritten : Write
 WellWritten n m items table slots out r out′ = r .code ≡ 0 → WellFormed (take (r .length) out′) × (r .length ≤ 31110)
 
 pub record WriteClaims (ρ : Routine) : Type 2 where
-  pub contract : Always write.ended ρ (onWrite WriteAs)
   -- 01: "Writing takes n, m, an item count .."; its refusals in their order, and what the output holds then
   pub says : Always write.ended ρ (onWrite Writes)
   pub zero : Always write.ended ρ (onWrite WritesZero)
   pub well-formed : Always write.ended ρ (onWrite WellWritten)
   pub same-bytes : Always write.ended ρ (onWrite WriteBack)
 
--- the runs of the joint table, of a call
-abbrev pub Worked : {E : Type 0} → LegForm E → Assemble E
-Worked form book run table slots plan legs r table′ slots′ plan′ legs′ =
-    (u : Run) (a : Answer) → BytesGive form u a → book ≡ bytesQ → run ≡ runBytes u → Room form plan legs → Long table slots
-    → Left form a plan legs r plan′ legs′
-
 abbrev pub DemandOf : {E : Type 0} → LegForm E → Assemble E
 DemandOf form book run table slots plan legs r table′ slots′ plan′ legs′ = Demand form book run table slots plan legs r plan′ legs′
 
 pub record AssembleClaims (ρ : Routine) : Type 2 where
-  pub contract : Always assemble.ended ρ (onAssemble (AssembleAs inBytes))
   -- every code of 01's table in its order, with every buffer as stated for it
   pub says : Always assemble.ended ρ (onAssemble (Assembles inBytes))
   -- demand 3, whole
   pub demand-three : Always assemble.ended ρ (onAssemble (DemandOf inBytes))
-  pub worked : Always assemble.ended ρ (onAssemble (Worked inBytes))
 
 -- with leg structs: the same of the structs
 pub record LegsClaims (ρ : Routine) : Type 2 where
-  pub contract : Always assemble-legs.ended ρ (onLegs (AssembleAs inStructs))
   pub says : Always assemble-legs.ended ρ (onLegs (Assembles inStructs))
   pub demand-three : Always assemble-legs.ended ρ (onLegs (DemandOf inStructs))
-  pub worked : Always assemble-legs.ended ρ (onLegs (Worked inStructs))
 
 pub record LookupClaims (ρ : Routine) : Type 2 where
-  pub contract : Always lookup.ended ρ (onLookup (λ state command r. r ≡ lookupOf state command))
   -- 01: "A lookup with state over 63 or command over 15 returns 5, 0 and mask 0; else 0, 0 and the mask"
   pub says : Always lookup.ended ρ (onLookup Looked)
 
 -- the program's text
 pub record ReportClaims (ρ : Routine) : Type 2 where
-  pub contract : Always report.ended ρ (onReport ReportAs)
   -- 01: "The program `rollback` judges at most the first 31,111 bytes of book.bin and 302 of run.bin"; its two lines, in the lent row
   pub says : Always report.ended ρ (onReport Reports)

@@ -27,7 +27,7 @@ module _ {book table slots : List ℕ} {r : Reading} {t s : List ℕ} (h : Bytes
   reads-unique (short a e k) (faulty l f e′ k′) = absurd (a l)
   reads-unique (short a e k) (fine b f e′) = absurd (a (f .long))
   reads-unique (faulty l f e k) (short a e′ k′) = absurd (a l)
-  reads-unique (faulty l f e k) (faulty l′ f′ e′ k′) =
+  reads-unique {q} {t′} {s′} (faulty l f e k) (faulty l′ f′ e′ k′) =
       let (c, p) = one-refusal book h f f′ in
       (e ∙ (ap₂ refusal c p ∙ sym e′), k .table-same ∙ sym (k′ .table-same), k .slots-same ∙ sym (k′ .slots-same))
   reads-unique (faulty l f e k) (fine b g e′) = absurd (not-refused book h f b (g .allowed) (g .bytes))

@@ -147,7 +147,7 @@ module _ {n m items : ℕ} {table slots out : List ℕ} where
     writes-is : {r : Writing} {out′ : List ℕ} → Writes n m items table slots out r out′
         → (r ≡ checked n m items table slots out refusal (written (length (bytesOf (bookFrom n m items table slots)))))
         × (out′ ≡ checked n m items table slots out (λ code place. out) (sets out 0 (bytesOf (bookFrom n m items table slots))))
-    writes-is (refused q e f) = (e ∙ refused-is n m items table slots out h _ _ q, f ∙ refused-is n m items table slots out h _ _ q)
+    writes-is {r} {out′} (refused q e f) = (e ∙ refused-is n m items table slots out h _ _ q, f ∙ refused-is n m items table slots out h _ _ q)
     writes-is {r} {out′} (done long b a k v) =
         let w = held-writable a k (long .table-size) (long .slots-size) in
         let s : BookWritten (bytesOf (bookFrom n m items table slots)) out r out′

@@ -32,7 +32,7 @@ use Rattle.runs.proofs.Formed.{run-value, run-formed}
 use Rattle.assembly.specs.declared.Assembly.{Assembly}
 use Rattle.assembly.specs.Assembles.{refusal, resultOf, legsBytes, LegForm, inBytes, Room, Assembles, short, unaccepted, faulty, answered}
 use Rattle.assembly.specs.Contract.{RoomShort, answerOf, plannedBy, roomBy, assembleBy, AssembleAs}
-use Rattle.assembly.proofs.Answers.{either-short, room-enough}
+use Rattle.assembly.proofs.Room.{either-short, room-enough}
 
 -- ---- a chain has at most 8 commands and one item for each point passed
 module _ (d : Device) (r : Run) (items : List Item) (each : Each (AllowedItem d) items) where

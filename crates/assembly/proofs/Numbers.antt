@@ -13,20 +13,19 @@ use Rattle.base.specs.Tests.{pick}
 use Rattle.base.specs.Bounded.{seek}
 use Rattle.base.proofs.Tests.{both-l, both-r, both-of, eq-T, pick-yes, pick-no}
 use Rattle.base.proofs.Bounded.{least-same, seek-hit, seek-low}
-use Rattle.reversal.specs.Chains.{none}
 use Rattle.reversal.specs.Computed.Least.{Rule, via, leasts, leastAt, begins}
 use Rattle.reversal.proofs.Shortest.{leasts-length, leasts-at, least-suc}
 use Rattle.assembly.specs.Rules.{Chosen, Numbered}
 
-module _ (R : Rule) (top : R .top ≡ none) (moving : (a : ℕ) → a < R .count → 1 ≤ R .k a) where
-  -- the numbers so far, and none above
+module _ (R : Rule) (moving : (a : ℕ) → a < R .count → 1 ≤ R .k a) where
+  -- the numbers so far, and the top above
   abbrev padded : ℕ → List ℕ
-  padded j = leasts R j ++ replicate (32 - j) none
+  padded j = leasts R j ++ replicate (32 - j) (R .top)
 
   -- a lower point's number stands in both
   lower-same : (j a : ℕ) → a < R .count → getD (padded j) (suc j - R .k a) 0 ≡ leastAt R (suc j - R .k a)
   lower-same j a l =
-      List·getD-append (leasts R j) (replicate (32 - j) none) 0 (suc j - R .k a) (omega (arith, leasts-length R j, moving a l))
+      List·getD-append (leasts R j) (replicate (32 - j) (R .top)) 0 (suc j - R .k a) (omega (arith, leasts-length R j, moving a l))
       ∙ leasts-at R j (suc j - R .k a) (omega (arith, moving a l))
 
   via-same : (j a : ℕ) → a < R .count → via R (padded j) (suc j) a ≡ via R (leasts R j) (suc j) a
@@ -83,7 +82,7 @@ module _ (R : Rule) (top : R .top ≡ none) (moving : (a : ℕ) → a < R .count
       go (no l) = omega (arith, low)
 
   -- ---- the loop
-  pub numbered-start : Numbered R 0 (0 ∷ replicate 32 none) (replicate 33 0)
+  pub numbered-start : Numbered R 0 (0 ∷ replicate 32 (R .top)) (replicate 33 0)
   unfolding leasts
   numbered-start = record { low = omega arith; fewest = refl; size = refl; first = λ l a b. absurd (omega arith) }
 
@@ -101,14 +100,14 @@ module _ (R : Rule) (top : R .top ≡ none) (moving : (a : ℕ) → a < R .count
       n : number ≡ leastAt R (suc j)
       n = number-is j number item chosen
 
-      fewest : set ns (j + 1) number ≡ leasts R (j + 1) ++ replicate (32 - (j + 1)) none
+      fewest : set ns (j + 1) number ≡ leasts R (j + 1) ++ replicate (32 - (j + 1)) (R .top)
       fewest =
           let s : 32 - j ≡ suc (32 - (j + 1)) = omega arith in
-          ap (λ (x : List ℕ). set x (j + 1) number) (g .fewest ∙ ap (λ (k : ℕ). leasts R j ++ replicate k none) s)
-          ∙ set-at (leasts R j) none (replicate (32 - (j + 1)) none) number (j + 1) (leasts-length R j ∙ sym (add-one j))
-          ∙ sym (append-snoc (leasts R j) number (replicate (32 - (j + 1)) none))
-          ∙ ap (λ (x : ℕ). (leasts R j ++ (x ∷ [])) ++ replicate (32 - (j + 1)) none) (n ∙ least-suc R j)
-          ∙ ap (λ (x : ℕ). leasts R x ++ replicate (32 - (j + 1)) none) (sym (add-one j))
+          ap (λ (x : List ℕ). set x (j + 1) number) (g .fewest ∙ ap (λ (k : ℕ). leasts R j ++ replicate k (R .top)) s)
+          ∙ set-at (leasts R j) (R .top) (replicate (32 - (j + 1)) (R .top)) number (j + 1) (leasts-length R j ∙ sym (add-one j))
+          ∙ sym (append-snoc (leasts R j) number (replicate (32 - (j + 1)) (R .top)))
+          ∙ ap (λ (x : ℕ). (leasts R j ++ (x ∷ [])) ++ replicate (32 - (j + 1)) (R .top)) (n ∙ least-suc R j)
+          ∙ ap (λ (x : ℕ). leasts R x ++ replicate (32 - (j + 1)) (R .top)) (sym (add-one j))
 
       first : (k : ℕ) → 1 ≤ k → k ≤ j + 1 → leastAt R k < R .top → getD (set items (j + 1) item) k 0 ≡ seek (begins R k) 0 (R .count)
       first k a b h = go (decLt j k)

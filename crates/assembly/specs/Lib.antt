@@ -1,7 +1,7 @@
 pub mod Believed
+pub mod Fields
 pub mod Rules
-pub mod Walk
-pub mod Walking
+pub mod ChainFollowed
 pub mod Assembles
 pub mod Contract
 pub mod Demand

@@ -1,8 +1,10 @@
 // The chain from a point down, written as a plan and legs.
+use crate::slot;
 ghost use mathlib.Core.Path.{_≡_};
 ghost use Prim.Native.Nat.{_<_};
 ghost use lib.Seq.{sets};
-ghost use Rattle.assembly.specs.Walk.{legBytes, Walkable, Walked};
+ghost use Rattle.assembly.specs.Fields.{inSlots};
+ghost use Rattle.assembly.specs.ChainFollowed.{legBytes, Walkable, Walked};
 
 // What was written.
 pub struct Counts {
@@ -28,20 +30,18 @@ pub(crate) fn write_chain(
     plan: &mut [u8],
     legs: &mut [u8],
 ) -> Counts
-    requires { ⌜ Walkable (now slots) (now items) i ⌝ }
-    ensures { λ r. ⌜ Walked (now (slots .entry)) (now (items .entry)) i (now (plan .entry)) (now (legs .entry)) r (now (plan .exit)) (now (legs .exit)) ⌝ }
+    requires { ⌜ Walkable (inSlots (now slots)) (now items) i ⌝ }
+    ensures { λ r. ⌜ Walked (inSlots (now (slots .entry))) (now (items .entry)) i (now (plan .entry)) (now (legs .entry)) r (now (plan .exit)) (now (legs .exit)) ⌝ }
 {
     let mut j = i;
     let mut commands: u64 = 0;
     let mut count: u64 = 0;
     while 0 < j {
         let a = num::byte_at(items, j as usize);
-        let at = (34 * a) as usize;
-        let k = num::byte_at(slots, at);
-        let r = num::byte_at(slots, at + 1);
-        num::copy(r as usize, slots, at + 10, plan, commands as usize);
+        let k = slot::k(slots, a);
+        slot::put_reverse(slots, a, plan, commands as usize);
         put_leg(legs, (3 * count) as usize, a, j, j - k);
-        commands = commands + r;
+        commands = commands + slot::r(slots, a);
         count = count + 1;
         j = j - k;
     }

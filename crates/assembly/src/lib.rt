@@ -2,6 +2,7 @@
 mod beliefs;
 mod chain;
 mod points;
+mod slot;
 
 use beliefs::beliefs;
 use chain::write_chain;

@@ -1,29 +1,30 @@
 // The fewest commands for each point of a run, and the item that begins a chain with so few.
+use crate::slot;
 use states::StateSet;
 ghost use mathlib.Core.Path.{_≡_};
 ghost use Prim.Native.Nat.{_≤_, _<_};
-ghost use Rattle.assembly.specs.Rules.{fitsAt, ruleIn, Chosen, Moving, Numbered};
+ghost use Rattle.assembly.specs.Fields.{inSlots};
+ghost use Rattle.assembly.specs.Rules.{fitsAt, ruleOf, Chosen, Moving, Numbered};
 
 // Whether the item fits from point j, by the possible states at both ends.
 fn fits_at(slots: &[u8], a: u64, run: &[u8], sets: &[u64; 33], j: u64) -> bool
     requires { ⌜ (a < 64) × (j ≤ 32) ⌝ }
-    ensures { λ r. ⌜ r ≡ fitsAt (now (slots .entry)) (now (run .entry)) (now (sets .entry)) a j ⌝ }
+    ensures { λ r. ⌜ r ≡ fitsAt (inSlots (now (slots .entry))) (now (run .entry)) (now (sets .entry)) a j ⌝ }
 {
-    let at = (34 * a) as usize;
-    let k = num::byte_at(slots, at);
+    let k = slot::k(slots, a);
     if j < k {
         return false;
     }
     let low = j - k;
     for x in 0..k {
-        if num::byte_at(slots, at + 2 + x as usize) != runs::command_at(run, low + x) {
+        if slot::forward(slots, a, x) != runs::command_at(run, low + x) {
             return false;
         }
     }
-    if !StateSet::of(sets[j as usize]).is_inside(num::u64_at(slots, at + 18)) {
+    if !StateSet::of(sets[j as usize]).is_inside(slot::phi(slots, a)) {
         return false;
     }
-    StateSet::of(sets[low as usize]).is_inside(num::u64_at(slots, at + 26))
+    StateSet::of(sets[low as usize]).is_inside(slot::psi(slots, a))
 }
 
 fn wide(x: u16) -> u64
@@ -48,15 +49,14 @@ fn best(
     j: u64,
 ) -> Choice
     requires { ⌜ (count ≤ 64) × (j ≤ 32) ⌝ }
-    ensures { λ r. ⌜ Chosen (ruleIn (now (slots .entry)) (now (run .entry)) (now (sets .entry)) count) (now (fewest .entry)) j count (r .number) (r .item) ⌝ }
+    ensures { λ r. ⌜ Chosen (ruleOf (inSlots (now (slots .entry))) (now (run .entry)) (now (sets .entry)) count) (now (fewest .entry)) j count (r .number) (r .item) ⌝ }
 {
     let mut number: u64 = 65535;
     let mut item: u64 = 0;
     for a in 0..count {
         if fits_at(slots, a, run, sets, j) {
-            let at = (34 * a) as usize;
-            let low = j - num::byte_at(slots, at);
-            let sum = num::byte_at(slots, at + 1) + wide(fewest[low as usize]);
+            let low = j - slot::k(slots, a);
+            let sum = slot::r(slots, a) + wide(fewest[low as usize]);
             if sum < number {
                 number = sum;
                 item = a;
@@ -77,8 +77,8 @@ pub struct Points {
 
 // The numbers from point 0 upward; each point tries each item once.
 pub(crate) fn points_of(slots: &[u8], count: u64, run: &[u8], sets: &[u64; 33], i: u64) -> Points
-    requires { ⌜ (count ≤ 64) × (i ≤ 32) × Moving (now slots) count ⌝ }
-    ensures { λ r. ⌜ Numbered (ruleIn (now (slots .entry)) (now (run .entry)) (now (sets .entry)) count) i (r .fewest) (r .items) ⌝ }
+    requires { ⌜ (count ≤ 64) × (i ≤ 32) × Moving (inSlots (now slots)) count ⌝ }
+    ensures { λ r. ⌜ Numbered (ruleOf (inSlots (now (slots .entry))) (now (run .entry)) (now (sets .entry)) count) i (r .fewest) (r .items) ⌝ }
 {
     let mut fewest = [65535u16; 33];
     let mut items = [0u8; 33];

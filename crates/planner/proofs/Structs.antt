@@ -13,7 +13,7 @@ use Rattle.reversal.specs.Answers.{Answer}
 use Rattle.assembly.specs.declared.Assembly.{Assembly}
 use Rattle.assembly.specs.Assembles.{refusal, resultOf, legsBytes, inBytes}
 use Rattle.assembly.specs.Contract.{roomBy, assembleBy, AssembleAs}
-use Rattle.assembly.proofs.Answers.{either-short, legs-enough}
+use Rattle.assembly.proofs.Room.{either-short, legs-enough}
 use Rattle.assembly.proofs.Exactly.{Even, even-bytes, Outcome, refused, given, outcome}
 use Rattle.planner.specs.declared.Leg.{Leg}
 use Rattle.planner.specs.declared.Whole.{Whole}

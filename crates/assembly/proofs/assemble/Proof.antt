@@ -1,10 +1,15 @@
--- `assemble` meets its contract. Assumes nothing.
+-- `assemble` meets its contract: each way through it by a law of proofs/WaysOfAssemble. Assumes nothing.
+use mathlib.Core.Path.{_≡_}
+use Prim.Native.Nat.{_≤_, _<_}
 use native.Mathlib.Omega.{arith}
-use Prim.Native.Nat.{_<_}
-use Rattle.assembly.specs.Assembles.{inBytes}
-use Rattle.base.proofs.Lists.{each-of}
-use Rattle.assembly.proofs.Answers.{plan-short, legs-short, room-refused, not-accepted, limits, movable, run-refused, low, no-state, no-number, can-walk, written}
 use borrow.Author.Needs.{needs}
+use Rattle.base.specs.Lists.{Bytes}
+use Rattle.base.proofs.Lists.{each-of}
+use Rattle.runs.specs.Computed.{lastOf}
+use Rattle.assembly.specs.Assembles.{inBytes}
+use Rattle.assembly.proofs.Room.{plan-short, legs-short}
+use Rattle.assembly.proofs.WaysOfAssemble as ways
+use Rattle.assembly.proofs.WaysOfAssemble.{Entered}
 use Rattle.assembly.proofs.assemble.Statement.{statement}
 use Rattle.assembly.proofs.assemble.Tie as tie
 use Rattle.assembly.proofs.assemble.Reads as reads
@@ -17,17 +22,74 @@ use Rattle.checker.proofs.check.Reads as check-reads
 use Rattle.runs.proofs.last_point.Reads as last-point-reads
 use Rattle.runs.proofs.run_fine.Reads as run-fine-reads
 
+-- ---- places: at entry, after checking, with the book accepted, with the run fine, with some state possible, with the numbers known
+abbrev start : tie.After-slice-known4 → tie.Start
+start c = c .before .before .before .before .before .before
+
+abbrev entry : tie.After-check → tie.After-slice-known4
+entry c = c .before .before .before .before .before
+
+abbrev checked : tie.After-struct-known → tie.After-check
+checked c = c .before .before .before .before .before
+
+abbrev accepted : tie.Else4 → tie.Else3
+accepted c = c .before .before
+
+abbrev fine : tie.After-beliefs → tie.Else4
+fine c = c .before .before
+
+abbrev possible : tie.After-last-point → tie.Else5
+possible c = c .before
+
+abbrev pointed : tie.After-points-of → tie.After-last-point
+pointed c = c .before .before .before
+
+abbrev numbered : tie.Else6 → tie.After-points-of
+numbered c = c .before .before
+
+abbrev walked : tie.After-t42 → tie.After-write-chain
+walked c = c .before .before .before .before .before
+
+abbrev chain : tie.After-write-chain-arg5 → tie.Else6
+chain c = c .before .before .before .before .before .before
+
+abbrev taken : tie.After-points-of → tie.After-struct-known
+taken c = accepted (fine (possible (pointed c) .before)) .before
+
+-- ---- what holds there
+book-bytes : (c : tie.After-slice-known4) → Bytes (start c .args .book .now)
+book-bytes c = each-of (λ x. x < 256) (start c .args .book .now) 0 (λ i h. omega (arith, c .before .before .before .before .before .shared-slice-known .given i))
+
+run-bytes : (c : tie.After-slice-known4) → Bytes (start c .args .run .now)
+run-bytes c = each-of (λ x. x < 256) (start c .args .run .now) 0 (λ i h. omega (arith, c .before .before .before .before .shared-slice-known2 .given i))
+
+entered : (c : tie.After-check) → let a = start (entry c) .args in
+    Entered (a .book .now) (a .run .now) (a .table .now) (a .slots .now) (a .plan .now) (a .legs .now) (c .check .result) (c .check .last .1 .0) (c .check .last .1 .1 .0)
+entered c =
+    record {
+      check = c .check .ensures;
+      run-bytes = run-bytes (entry c);
+      room = (c .before .before .before .before .if1 .left, c .before .before .before .if2 .left);
+    }
+
 refused-requires : tie.Need-refused-requires
 refused-requires c κs = search needs
 
 returns : tie.Need-returns
-returns c = room-refused (c .before .before .before .before .before .before .before .before .args .book .now) (c .before .before .before .before .before .before .before .before .args .run .now) (c .before .before .before .before .before .before .before .before .args .table .now) (c .before .before .before .before .before .before .before .before .args .slots .now) (c .before .before .before .before .before .before .before .before .args .plan .now) (c .before .before .before .before .before .before .before .before .args .legs .now) (each-of (λ x. x < 256) (c .before .before .before .before .before .before .before .before .args .book .now) 0 (λ i h. omega (arith, c .before .before .before .before .before .before .before .shared-slice-known .given i))) (each-of (λ x. x < 256) (c .before .before .before .before .before .before .before .before .args .run .now) 0 (λ i h. omega (arith, c .before .before .before .before .before .before .shared-slice-known2 .given i))) (λ A x y. plan-short inBytes (c .before .before .before .before .before .before .before .before .args .plan .now) (c .before .before .before .before .before .before .before .before .args .legs .now) x y (c .before .if1 .taken)) (c .refused .ensures)
+returns c =
+    let s = c .before .before in
+    let a = start s .args in
+    ways.room-refused (book-bytes s) (run-bytes s) (λ A x y. plan-short inBytes (a .plan .now) (a .legs .now) x y (c .before .if1 .taken)) (c .refused .ensures)
 
 refused-requires-2 : tie.Need-refused-requires-2
 refused-requires-2 c κs = search needs
 
 returns-2 : tie.Need-returns-2
-returns-2 c = room-refused (c .before .before .before .before .before .before .before .before .before .args .book .now) (c .before .before .before .before .before .before .before .before .before .args .run .now) (c .before .before .before .before .before .before .before .before .before .args .table .now) (c .before .before .before .before .before .before .before .before .before .args .slots .now) (c .before .before .before .before .before .before .before .before .before .args .plan .now) (c .before .before .before .before .before .before .before .before .before .args .legs .now) (each-of (λ x. x < 256) (c .before .before .before .before .before .before .before .before .before .args .book .now) 0 (λ i h. omega (arith, c .before .before .before .before .before .before .before .before .shared-slice-known .given i))) (each-of (λ x. x < 256) (c .before .before .before .before .before .before .before .before .before .args .run .now) 0 (λ i h. omega (arith, c .before .before .before .before .before .before .before .shared-slice-known2 .given i))) (λ A x y. legs-short inBytes (c .before .before .before .before .before .before .before .before .before .args .plan .now) (c .before .before .before .before .before .before .before .before .before .args .legs .now) x y (c .before .before .if1 .left) (c .before .if2 .taken)) (c .refused2 .ensures)
+returns-2 c =
+    let s = c .before .before .before in
+    let a = start s .args in
+    ways.room-refused (book-bytes s) (run-bytes s)
+    (λ A x y. legs-short inBytes (a .plan .now) (a .legs .now) x y (c .before .before .if1 .left) (c .before .if2 .taken)) (c .refused2 .ensures)
 
 check-requires : tie.Need-check-requires
 check-requires c κs = search needs
@@ -42,7 +104,7 @@ same-length-2 : tie.Need-same-length-2
 same-length-2 c = search needs
 
 returns-3 : tie.Need-returns-3
-returns-3 c = not-accepted (c .before .before .before .before .before .before .before .check .ensures) (c .before .before .before .before .before .before .before .before .before .before .before .before .before .before .before .before .before .before .args .run .now) (c .before .before .before .before .before .before .before .before .before .before .before .before .before .before .before .before .before .before .args .plan .now) (c .before .before .before .before .before .before .before .before .before .before .before .before .before .before .before .before .before .before .args .legs .now) (each-of (λ x. x < 256) (c .before .before .before .before .before .before .before .before .before .before .before .before .before .before .before .before .before .before .args .run .now) 0 (λ i h. omega (arith, c .before .before .before .before .before .before .before .before .before .before .before .before .before .before .before .before .shared-slice-known2 .given i))) (c .before .before .before .before .before .before .before .before .before .before .before .if1 .left, c .before .before .before .before .before .before .before .before .before .before .if2 .left) (c .before .if3 .taken) (c .refused3 .ensures)
+returns-3 c = ways.not-accepted (entered (checked (c .before .before))) (c .before .if3 .taken) (c .refused3 .ensures)
 
 run-fine-requires : tie.Need-run-fine-requires
 run-fine-requires c κs = search needs
@@ -57,10 +119,19 @@ same-length-4 : tie.Need-same-length-4
 same-length-4 c = search needs
 
 returns-4 : tie.Need-returns-4
-returns-4 c = run-refused (c .before .before .before .before .before .before .before .before .before .check .ensures) (c .before .before .before .before .before .before .before .before .before .before .before .before .before .before .before .before .before .before .before .before .args .run .now) (c .before .before .before .before .before .before .before .before .before .before .before .before .before .before .before .before .before .before .before .before .args .plan .now) (c .before .before .before .before .before .before .before .before .before .before .before .before .before .before .before .before .before .before .before .before .args .legs .now) (each-of (λ x. x < 256) (c .before .before .before .before .before .before .before .before .before .before .before .before .before .before .before .before .before .before .before .before .args .run .now) 0 (λ i h. omega (arith, c .before .before .before .before .before .before .before .before .before .before .before .before .before .before .before .before .before .before .shared-slice-known2 .given i))) (c .before .before .before .before .before .before .before .before .before .before .before .before .before .if1 .left, c .before .before .before .before .before .before .before .before .before .before .before .before .if2 .left) (c .before .before .before .if3 .left) (c .before .before .run-fine .ensures) (c .before .if4 .taken) (c .refused4 .ensures)
+returns-4 c =
+    let t = c .before .before in
+    ways.run-refused (entered (checked (t .before .before))) (t .before .if3 .left) (t .run-fine .ensures) (c .before .if4 .taken) (c .refused4 .ensures)
+
+-- the run's last point
+low : (c : tie.Else4) → lastOf (start (entry (checked (accepted c .before))) .args .run .now) ≤ 32
+low c = ways.low (entered (checked (accepted c .before))) (accepted c .if3 .left) (c .before .run-fine .ensures) (c .if4 .left)
 
 beliefs-requires : tie.Need-beliefs-requires
-beliefs-requires c κs = (limits (c .before .before .before .before .before .before .before .before .before .check .ensures) (c .before .before .before .before .before .before .before .before .before .before .before .before .before .before .before .before .before .before .before .before .args .run .now) (c .before .before .before .before .before .before .before .before .before .before .before .before .before .before .before .before .before .before .before .before .args .plan .now) (c .before .before .before .before .before .before .before .before .before .before .before .before .before .before .before .before .before .before .before .before .args .legs .now) (each-of (λ x. x < 256) (c .before .before .before .before .before .before .before .before .before .before .before .before .before .before .before .before .before .before .before .before .args .run .now) 0 (λ i h. omega (arith, c .before .before .before .before .before .before .before .before .before .before .before .before .before .before .before .before .before .before .shared-slice-known2 .given i))) (c .before .before .before .before .before .before .before .before .before .before .before .before .before .if1 .left, c .before .before .before .before .before .before .before .before .before .before .before .before .if2 .left) (c .before .before .before .if3 .left) .0, limits (c .before .before .before .before .before .before .before .before .before .check .ensures) (c .before .before .before .before .before .before .before .before .before .before .before .before .before .before .before .before .before .before .before .before .args .run .now) (c .before .before .before .before .before .before .before .before .before .before .before .before .before .before .before .before .before .before .before .before .args .plan .now) (c .before .before .before .before .before .before .before .before .before .before .before .before .before .before .before .before .before .before .before .before .args .legs .now) (each-of (λ x. x < 256) (c .before .before .before .before .before .before .before .before .before .before .before .before .before .before .before .before .before .before .before .before .args .run .now) 0 (λ i h. omega (arith, c .before .before .before .before .before .before .before .before .before .before .before .before .before .before .before .before .before .before .shared-slice-known2 .given i))) (c .before .before .before .before .before .before .before .before .before .before .before .before .before .if1 .left, c .before .before .before .before .before .before .before .before .before .before .before .before .if2 .left) (c .before .before .before .if3 .left) .1, low (c .before .before .before .before .before .before .before .before .before .check .ensures) (c .before .before .before .before .before .before .before .before .before .before .before .before .before .before .before .before .before .before .before .before .args .run .now) (c .before .before .before .before .before .before .before .before .before .before .before .before .before .before .before .before .before .before .before .before .args .plan .now) (c .before .before .before .before .before .before .before .before .before .before .before .before .before .before .before .before .before .before .before .before .args .legs .now) (each-of (λ x. x < 256) (c .before .before .before .before .before .before .before .before .before .before .before .before .before .before .before .before .before .before .before .before .args .run .now) 0 (λ i h. omega (arith, c .before .before .before .before .before .before .before .before .before .before .before .before .before .before .before .before .before .before .shared-slice-known2 .given i))) (c .before .before .before .before .before .before .before .before .before .before .before .before .before .if1 .left, c .before .before .before .before .before .before .before .before .before .before .before .before .if2 .left) (c .before .before .before .if3 .left) (c .before .before .run-fine .ensures) (c .before .if4 .left))
+beliefs-requires c κs =
+    let t = accepted (c .before) in
+    let (n, m, items) = ways.limits (entered (checked (t .before))) (t .if3 .left) in
+    (n, m, low (c .before))
 
 array-read-if5 : tie.Need-array-read-if5
 array-read-if5 c = search needs
@@ -75,13 +146,23 @@ same-length-6 : tie.Need-same-length-6
 same-length-6 c = search needs
 
 returns-5 : tie.Need-returns-5
-returns-5 c = no-state (c .before .before .before .before .before .before .before .before .before .before .before .before .check .ensures) (c .before .before .before .before .before .before .before .before .before .before .before .before .before .before .before .before .before .before .before .before .before .before .before .args .run .now) (c .before .before .before .before .before .before .before .before .before .before .before .before .before .before .before .before .before .before .before .before .before .before .before .args .plan .now) (c .before .before .before .before .before .before .before .before .before .before .before .before .before .before .before .before .before .before .before .before .before .before .before .args .legs .now) (each-of (λ x. x < 256) (c .before .before .before .before .before .before .before .before .before .before .before .before .before .before .before .before .before .before .before .before .before .before .before .args .run .now) 0 (λ i h. omega (arith, c .before .before .before .before .before .before .before .before .before .before .before .before .before .before .before .before .before .before .before .before .before .shared-slice-known2 .given i))) (c .before .before .before .before .before .before .before .before .before .before .before .before .before .before .before .before .if1 .left, c .before .before .before .before .before .before .before .before .before .before .before .before .before .before .before .if2 .left) (c .before .before .before .before .before .before .if3 .left) (c .before .before .before .before .before .run-fine .ensures) (c .before .before .before .before .if4 .left) _ (c .before .before .beliefs .ensures) (c .before .if5 .taken) (c .refused5 .ensures)
+returns-5 c =
+    let s = c .before .before in
+    let u = fine s in
+    let t = accepted u in
+    ways.no-state (entered (checked (t .before))) (t .if3 .left) (u .before .run-fine .ensures) (u .if4 .left) (s .beliefs .ensures) (c .before .if5 .taken) (c .refused5 .ensures)
 
 last-point-requires : tie.Need-last-point-requires
 last-point-requires c κs = search needs
 
 points-of-requires : tie.Need-points-of-requires
-points-of-requires c κs = (limits (c .before .before .before .before .before .before .before .before .before .before .before .before .before .before .check .ensures) (c .before .before .before .before .before .before .before .before .before .before .before .before .before .before .before .before .before .before .before .before .before .before .before .before .before .args .run .now) (c .before .before .before .before .before .before .before .before .before .before .before .before .before .before .before .before .before .before .before .before .before .before .before .before .before .args .plan .now) (c .before .before .before .before .before .before .before .before .before .before .before .before .before .before .before .before .before .before .before .before .before .before .before .before .before .args .legs .now) (each-of (λ x. x < 256) (c .before .before .before .before .before .before .before .before .before .before .before .before .before .before .before .before .before .before .before .before .before .before .before .before .before .args .run .now) 0 (λ i h. omega (arith, c .before .before .before .before .before .before .before .before .before .before .before .before .before .before .before .before .before .before .before .before .before .before .before .shared-slice-known2 .given i))) (c .before .before .before .before .before .before .before .before .before .before .before .before .before .before .before .before .before .before .if1 .left, c .before .before .before .before .before .before .before .before .before .before .before .before .before .before .before .before .before .if2 .left) (c .before .before .before .before .before .before .before .before .if3 .left) .2, omega (arith, low (c .before .before .before .before .before .before .before .before .before .before .before .before .before .before .check .ensures) (c .before .before .before .before .before .before .before .before .before .before .before .before .before .before .before .before .before .before .before .before .before .before .before .before .before .args .run .now) (c .before .before .before .before .before .before .before .before .before .before .before .before .before .before .before .before .before .before .before .before .before .before .before .before .before .args .plan .now) (c .before .before .before .before .before .before .before .before .before .before .before .before .before .before .before .before .before .before .before .before .before .before .before .before .before .args .legs .now) (each-of (λ x. x < 256) (c .before .before .before .before .before .before .before .before .before .before .before .before .before .before .before .before .before .before .before .before .before .before .before .before .before .args .run .now) 0 (λ i h. omega (arith, c .before .before .before .before .before .before .before .before .before .before .before .before .before .before .before .before .before .before .before .before .before .before .before .shared-slice-known2 .given i))) (c .before .before .before .before .before .before .before .before .before .before .before .before .before .before .before .before .before .before .if1 .left, c .before .before .before .before .before .before .before .before .before .before .before .before .before .before .before .before .before .if2 .left) (c .before .before .before .before .before .before .before .before .if3 .left) (c .before .before .before .before .before .before .before .run-fine .ensures) (c .before .before .before .before .before .before .if4 .left), c .before .before .last-point .ensures .0), movable (c .before .before .before .before .before .before .before .before .before .before .before .before .before .before .check .ensures) (c .before .before .before .before .before .before .before .before .before .before .before .before .before .before .before .before .before .before .before .before .before .before .before .before .before .args .run .now) (c .before .before .before .before .before .before .before .before .before .before .before .before .before .before .before .before .before .before .before .before .before .before .before .before .before .args .plan .now) (c .before .before .before .before .before .before .before .before .before .before .before .before .before .before .before .before .before .before .before .before .before .before .before .before .before .args .legs .now) (each-of (λ x. x < 256) (c .before .before .before .before .before .before .before .before .before .before .before .before .before .before .before .before .before .before .before .before .before .before .before .before .before .args .run .now) 0 (λ i h. omega (arith, c .before .before .before .before .before .before .before .before .before .before .before .before .before .before .before .before .before .before .before .before .before .before .before .shared-slice-known2 .given i))) (c .before .before .before .before .before .before .before .before .before .before .before .before .before .before .before .before .before .before .if1 .left, c .before .before .before .before .before .before .before .before .before .before .before .before .before .before .before .before .before .if2 .left) (c .before .before .before .before .before .before .before .before .if3 .left))
+points-of-requires c κs =
+    let i = c .before .before in
+    let u = fine (possible i .before) in
+    let t = accepted u in
+    let h = entered (checked (t .before)) in
+    let (n, m, items) = ways.limits h (t .if3 .left) in
+    (items, omega (arith, low u, i .last-point .ensures .0), ways.movable h (t .if3 .left))
 
 mul-if6 : tie.Need-mul-if6
 mul-if6 c = search needs
@@ -96,16 +177,30 @@ same-length-8 : tie.Need-same-length-8
 same-length-8 c = search needs
 
 returns-6 : tie.Need-returns-6
-returns-6 c = no-number (c .before .before .before .before .before .before .before .before .before .before .before .before .before .before .before .before .before .before .check .ensures) (c .before .before .before .before .before .before .before .before .before .before .before .before .before .before .before .before .before .before .before .before .before .before .before .before .before .before .before .before .before .args .run .now) (c .before .before .before .before .before .before .before .before .before .before .before .before .before .before .before .before .before .before .before .before .before .before .before .before .before .before .before .before .before .args .plan .now) (c .before .before .before .before .before .before .before .before .before .before .before .before .before .before .before .before .before .before .before .before .before .before .before .before .before .before .before .before .before .args .legs .now) (each-of (λ x. x < 256) (c .before .before .before .before .before .before .before .before .before .before .before .before .before .before .before .before .before .before .before .before .before .before .before .before .before .before .before .before .before .args .run .now) 0 (λ i h. omega (arith, c .before .before .before .before .before .before .before .before .before .before .before .before .before .before .before .before .before .before .before .before .before .before .before .before .before .before .before .shared-slice-known2 .given i))) (c .before .before .before .before .before .before .before .before .before .before .before .before .before .before .before .before .before .before .before .before .before .before .if1 .left, c .before .before .before .before .before .before .before .before .before .before .before .before .before .before .before .before .before .before .before .before .before .if2 .left) (c .before .before .before .before .before .before .before .before .before .before .before .before .if3 .left) (c .before .before .before .before .before .before .before .before .before .before .before .run-fine .ensures) (c .before .before .before .before .before .before .before .before .before .before .if4 .left) _ (c .before .before .before .before .before .before .before .before .beliefs .ensures) (c .before .before .before .before .before .before .before .if5 .left) _ (c .before .before .before .before .before .before .last-point .ensures .0) _ _ (c .before .before .before .points-of .ensures) (c .before .if6 .taken)
+returns-6 c =
+    let p = c .before .before .before in
+    let i = pointed p in
+    let s = possible i in
+    let u = fine (s .before) in
+    let t = accepted u in
+    ways.no-number (entered (checked (t .before))) (t .if3 .left) (u .before .run-fine .ensures) (u .if4 .left) (s .before .beliefs .ensures) (s .if5 .left)
+    (i .last-point .ensures .0) (p .points-of .ensures) (c .before .if6 .taken)
 
 write-chain-requires : tie.Need-write-chain-requires
-write-chain-requires c κs = can-walk (c .before .before .before .before .before .before .before .before .before .before .before .before .before .before .before .before .before .before .before .before .before .before .before .check .ensures) (c .before .before .before .before .before .before .before .before .before .before .before .before .before .before .before .before .before .before .before .before .before .before .before .before .before .before .before .before .before .before .before .before .before .before .args .run .now) (c .before .before .before .before .before .before .before .before .before .before .before .before .before .before .before .before .before .before .before .before .before .before .before .before .before .before .before .before .before .before .before .before .before .before .args .plan .now) (c .before .before .before .before .before .before .before .before .before .before .before .before .before .before .before .before .before .before .before .before .before .before .before .before .before .before .before .before .before .before .before .before .before .before .args .legs .now) (each-of (λ x. x < 256) (c .before .before .before .before .before .before .before .before .before .before .before .before .before .before .before .before .before .before .before .before .before .before .before .before .before .before .before .before .before .before .before .before .before .before .args .run .now) 0 (λ i h. omega (arith, c .before .before .before .before .before .before .before .before .before .before .before .before .before .before .before .before .before .before .before .before .before .before .before .before .before .before .before .before .before .before .before .before .shared-slice-known2 .given i))) (c .before .before .before .before .before .before .before .before .before .before .before .before .before .before .before .before .before .before .before .before .before .before .before .before .before .before .before .if1 .left, c .before .before .before .before .before .before .before .before .before .before .before .before .before .before .before .before .before .before .before .before .before .before .before .before .before .before .if2 .left) (c .before .before .before .before .before .before .before .before .before .before .before .before .before .before .before .before .before .if3 .left) (c .before .before .before .before .before .before .before .before .before .before .before .before .before .before .before .before .run-fine .ensures) (c .before .before .before .before .before .before .before .before .before .before .before .before .before .before .before .if4 .left) _ (c .before .before .before .before .before .before .before .before .before .before .before .before .before .beliefs .ensures) (c .before .before .before .before .before .before .before .before .before .before .before .before .if5 .left) _ (c .before .before .before .before .before .before .before .before .before .before .before .last-point .ensures .0) _ _ (c .before .before .before .before .before .before .before .before .points-of .ensures) (c .before .before .before .before .before .before .if6 .left)
+write-chain-requires c κs =
+    let p = numbered (chain c) in
+    let i = pointed p in
+    let s = possible i in
+    let u = fine (s .before) in
+    let t = accepted u in
+    ways.can-walk (entered (checked (t .before))) (t .if3 .left) (u .before .run-fine .ensures) (u .if4 .left) (s .before .beliefs .ensures) (s .if5 .left)
+    (i .last-point .ensures .0) (p .points-of .ensures) (chain c .if6 .left)
 
 same-length-9 : tie.Need-same-length-9
-same-length-9 c = c .before .before .before .before .before .before .before .before .before .before .before .before .before .before .before .before .before .before .before .before .before .before .before .before .before .before .before .before .table .given
+same-length-9 c = taken (numbered (chain (walked c .before))) .before .before .before .before .table .given
 
 same-length-10 : tie.Need-same-length-10
-same-length-10 c = search (needs, c .before .before .before .before .before .before .before .before .before .before .before .before .before .before .before .before .before .before .before .before .before .before .before .before .before .before .slots .given)
+same-length-10 c = search (needs, taken (numbered (chain (walked c .before))) .before .before .slots .given)
 
 same-length-11 : tie.Need-same-length-11
 same-length-11 c = search needs
@@ -114,7 +209,15 @@ same-length-12 : tie.Need-same-length-12
 same-length-12 c = search needs
 
 returns-7 : tie.Need-returns-7
-returns-7 c = written (c .before .before .before .before .before .before .before .before .before .before .before .before .before .before .before .before .before .before .before .before .before .before .before .before .before .before .before .before .before .check .ensures) (c .before .before .before .before .before .before .before .before .before .before .before .before .before .before .before .before .before .before .before .before .before .before .before .before .before .before .before .before .before .before .before .before .before .before .before .before .before .before .before .before .args .run .now) (c .before .before .before .before .before .before .before .before .before .before .before .before .before .before .before .before .before .before .before .before .before .before .before .before .before .before .before .before .before .before .before .before .before .before .before .before .before .before .before .before .args .plan .now) (c .before .before .before .before .before .before .before .before .before .before .before .before .before .before .before .before .before .before .before .before .before .before .before .before .before .before .before .before .before .before .before .before .before .before .before .before .before .before .before .before .args .legs .now) (each-of (λ x. x < 256) (c .before .before .before .before .before .before .before .before .before .before .before .before .before .before .before .before .before .before .before .before .before .before .before .before .before .before .before .before .before .before .before .before .before .before .before .before .before .before .before .before .args .run .now) 0 (λ i h. omega (arith, c .before .before .before .before .before .before .before .before .before .before .before .before .before .before .before .before .before .before .before .before .before .before .before .before .before .before .before .before .before .before .before .before .before .before .before .before .before .before .shared-slice-known2 .given i))) (c .before .before .before .before .before .before .before .before .before .before .before .before .before .before .before .before .before .before .before .before .before .before .before .before .before .before .before .before .before .before .before .before .before .if1 .left, c .before .before .before .before .before .before .before .before .before .before .before .before .before .before .before .before .before .before .before .before .before .before .before .before .before .before .before .before .before .before .before .before .if2 .left) (c .before .before .before .before .before .before .before .before .before .before .before .before .before .before .before .before .before .before .before .before .before .before .before .if3 .left) (c .before .before .before .before .before .before .before .before .before .before .before .before .before .before .before .before .before .before .before .before .before .before .run-fine .ensures) (c .before .before .before .before .before .before .before .before .before .before .before .before .before .before .before .before .before .before .before .before .before .if4 .left) _ (c .before .before .before .before .before .before .before .before .before .before .before .before .before .before .before .before .before .before .before .beliefs .ensures) (c .before .before .before .before .before .before .before .before .before .before .before .before .before .before .before .before .before .before .if5 .left) _ (c .before .before .before .before .before .before .before .before .before .before .before .before .before .before .before .before .before .last-point .ensures .0) _ _ (c .before .before .before .before .before .before .before .before .before .before .before .before .before .before .points-of .ensures) (c .before .before .before .before .before .before .before .before .before .before .before .before .if6 .left) _ _ _ (c .before .before .before .before .before .write-chain .ensures)
+returns-7 c =
+    let w = walked c in
+    let p = numbered (chain (w .before)) in
+    let i = pointed p in
+    let s = possible i in
+    let u = fine (s .before) in
+    let t = accepted u in
+    ways.written (entered (checked (t .before))) (t .if3 .left) (u .before .run-fine .ensures) (u .if4 .left) (s .before .beliefs .ensures) (s .if5 .left)
+    (i .last-point .ensures .0) (p .points-of .ensures) (chain (w .before) .if6 .left) (w .write-chain .ensures)
 
 pub assemble-spec : {M : Type 1} → statement M
 assemble-spec =

@@ -1,5 +1,5 @@
 -- `put_leg` meets its contract. Assumes nothing.
-use Rattle.assembly.proofs.Walks.{leg-stored}
+use Rattle.assembly.proofs.ChainWritten.{leg-stored}
 use borrow.Author.Needs.{needs}
 use Rattle.assembly.proofs.chain.put_leg.Statement.{statement}
 use Rattle.assembly.proofs.chain.put_leg.Tie as tie

@@ -1,6 +1,6 @@
 -- `fits_at` meets its contract. The loop's invariant: the commands passed are the run's. Assumes nothing.
 use mathlib.Core.Path.{_≡_, sym, ap, ap₂, _∙_}
-use mathlib.Core.Bool.{true}
+use mathlib.Core.Bool.{true, false}
 use Prim.Native.Nat.{ℕ, _+_, _-_, _≤_}
 use native.Mathlib.Omega.{arith}
 use borrow.Author.Needs.{needs}
@@ -9,47 +9,85 @@ use lib.ListN.{getD}
 use Rattle.base.specs.Masks.{inside}
 use Rattle.states.specs.declared.StateSet.{StateSet}
 use Rattle.runs.specs.Computed.{commandOf}
+use Rattle.assembly.specs.Fields.{kAt, forwardAt, phiAt, psiAt, inSlots}
 use Rattle.assembly.specs.Rules.{sameAt}
-use Rattle.assembly.proofs.Fits.{fits-short, same-start, same-next, same-fails, upper-fails, lower-decides}
+use Rattle.assembly.proofs.FitTests.{fits-short, same-start, same-next, same-fails, upper-fails, lower-decides}
 use Rattle.assembly.proofs.points.fits_at.Statement.{statement}
 use Rattle.assembly.proofs.points.fits_at.Tie as tie
 use Rattle.assembly.proofs.points.fits_at.Reads as reads
 use Rattle.assembly.proofs.points.fits_at.Lts as lts
-use Rattle.num.proofs.byte_at.Reads as byte-at-reads
-use Rattle.num.proofs.u64_at.Reads as u64-at-reads
+use Rattle.assembly.proofs.slot.forward.Reads as forward-reads
+use Rattle.assembly.proofs.slot.k.Reads as k-reads
+use Rattle.assembly.proofs.slot.phi.Reads as phi-reads
+use Rattle.assembly.proofs.slot.psi.Reads as psi-reads
 use Rattle.runs.proofs.command_at.Reads as command-at-reads
 use Rattle.states.proofs.StateSet.is_inside.Reads as is-inside-reads
 use Rattle.states.proofs.StateSet.of.Reads as of-reads
 
 abbrev Inv-loop : tie.InvT-loop
-Inv-loop slots a run sets j at k low x₀ x = (sameAt slots run a j x ≡ true) × (x ≤ k)
+Inv-loop slots a run sets j k low x₀ x = (sameAt (inSlots slots) run a j x ≡ true) × (x ≤ k)
 
 abbrev μ-loop : tie.MeasureT-loop
-μ-loop slots a run sets j at k low x₀ x = k - x
+μ-loop slots a run sets j k low x₀ x = k - x
 
-mul-at : tie.Need-mul-at Inv-loop μ-loop
-mul-at c = search needs
+-- ---- places: the reading of k, the loop's head, and the reading of the item's command and the run's
+abbrev start : tie.After-k Inv-loop μ-loop → tie.Start Inv-loop μ-loop
+start c = c .before .before .before
 
-byte-at-requires : tie.Need-byte-at-requires Inv-loop μ-loop
-byte-at-requires c κs = search needs
+abbrev read : tie.At-loop Inv-loop μ-loop → tie.After-k Inv-loop μ-loop
+read c = c .before .before
+
+abbrev head : tie.After-command-at Inv-loop μ-loop → tie.At-loop Inv-loop μ-loop
+head c = c .before .before .before
+
+abbrev entry : tie.At-loop Inv-loop μ-loop → tie.Start Inv-loop μ-loop
+entry c = start (read c)
+
+abbrev passed : tie.After-is-inside Inv-loop μ-loop → tie.At-loop Inv-loop μ-loop
+passed c = c .before .before .before .before .before
+
+-- ---- what holds there
+-- the item has room
+room : (c : tie.At-loop Inv-loop μ-loop) → kAt (entry c .args .slots .now) (entry c .args .a) ≤ entry c .args .j
+room c = omega (arith, read c .k .ensures .0, c .before .if1 .left)
+
+forward-is : (c : tie.After-command-at Inv-loop μ-loop)
+    → c .before .forward .result ≡ forwardAt (entry (head c) .args .slots .now) (entry (head c) .args .a) (head c .loop .x)
+forward-is c = c .before .forward .ensures
+
+command-is : (c : tie.After-command-at Inv-loop μ-loop) → let a = entry (head c) .args in
+    c .command-at .result ≡ commandOf (a .run .now) (a .j - kAt (a .slots .now) (a .a) + head c .loop .x)
+command-is c =
+    let a = entry (head c) .args in
+    c .command-at .ensures ∙ ap (λ (y : ℕ). commandOf (a .run .now) (a .j - y + head c .loop .x)) (read (head c) .k .ensures .0)
+
+-- whether the upper states are in phi
+upper-is : (c : tie.After-is-inside Inv-loop μ-loop) → let a = entry (passed c) .args in
+    c .is-inside .result ≡ inside (getD (a .sets .now) (a .j) 0) (phiAt (a .slots .now) (a .a))
+upper-is c =
+    let a = entry (passed c) .args in
+    c .is-inside .ensures
+    ∙ ap₂ (λ (x : StateSet) (y : ℕ). inside (x .mask) y) (c .before .before .of .ensures) (c .before .phi .ensures)
+
+-- all commands are the run's
+all-passed : (c : tie.After-loop Inv-loop μ-loop) → c .before .loop .x ≡ kAt (entry (c .before) .args .slots .now) (entry (c .before) .args .a)
+all-passed c = omega (arith, read (c .before) .k .ensures .0, c .before .loop .inv .1)
+
+k-requires : tie.Need-k-requires Inv-loop μ-loop
+k-requires c κs = omega arith
 
 returns : tie.Need-returns Inv-loop μ-loop
 returns c =
-    let a = c .before .before .before .before .args in
-    let k = c .before .byte-at .ensures .0 in
-    fits-short (a .slots .now) (a .run .now) (a .sets .now) (a .a) (a .j) (omega (arith, k))
+    let a = start (c .before) .args in
+    fits-short (inSlots (a .slots .now)) (a .run .now) (a .sets .now) (a .a) (a .j) (omega (arith, c .before .k .ensures .0))
 
 loop-holds : tie.Need-loop-holds Inv-loop μ-loop
-loop-holds c = (same-start (c .before .before .before .before .args .slots .now) (c .before .before .before .before .args .run .now) (c .before .before .before .before .args .sets .now) (c .before .before .before .before .args .a) (c .before .before .before .before .args .j), omega arith)
+loop-holds c =
+    let a = start (c .before) .args in
+    (same-start (inSlots (a .slots .now)) (a .run .now) (a .sets .now) (a .a) (a .j), omega arith)
 
-add-byte-at : tie.Need-add-byte-at Inv-loop μ-loop
-add-byte-at c = search needs
-
-add-byte-at-2 : tie.Need-add-byte-at-2 Inv-loop μ-loop
-add-byte-at-2 c = search needs
-
-byte-at-requires-2 : tie.Need-byte-at-requires-2 Inv-loop μ-loop
-byte-at-requires-2 c κs = search needs
+forward-requires : tie.Need-forward-requires Inv-loop μ-loop
+forward-requires c κs = omega (arith, read (c .before) .k .ensures .1)
 
 add-command-at : tie.Need-add-command-at Inv-loop μ-loop
 add-command-at c = search needs
@@ -59,9 +97,10 @@ command-at-requires c κs = search needs
 
 returns-2 : tie.Need-returns-2 Inv-loop μ-loop
 returns-2 c =
-    let a = c .before .before .before .before .before .before .before .before .before .args in
-    let k = c .before .before .before .before .before .before .byte-at .ensures .0 in
-    same-fails (a .slots .now) (a .run .now) (a .sets .now) (a .a) (a .j) (omega (arith, k)) (c .before .before .before .before .loop .x) _ _ (omega (arith, k)) (c .before .before .byte-at2 .ensures .0) (c .before .command-at .ensures ∙ ap (λ (y : ℕ). commandOf (a .run .now) (a .j - y + c .before .before .before .before .loop .x)) k) (c .if2 .taken)
+    let l = head (c .before) in
+    let a = entry l .args in
+    same-fails (inSlots (a .slots .now)) (a .run .now) (a .sets .now) (a .a) (a .j) (room l) (l .loop .x) _ _
+    (omega (arith, read l .k .ensures .0)) (forward-is (c .before)) (command-is (c .before)) (c .if2 .taken)
 
 add-x : tie.Need-add-x Inv-loop μ-loop
 add-x c = search needs
@@ -71,9 +110,12 @@ loop-less c = search needs
 
 loop-again : tie.Need-loop-again Inv-loop μ-loop
 loop-again c =
-    let a = c .before .before .before .before .before .before .before .before .before .args in
-    let k = c .before .before .before .before .before .before .byte-at .ensures .0 in
-    (same-next (a .slots .now) (a .run .now) (a .sets .now) (a .a) (a .j) (c .before .before .before .before .loop .x) _ _ (c .before .before .before .before .loop .inv .0) (c .before .before .byte-at2 .ensures .0) (c .before .command-at .ensures ∙ ap (λ (y : ℕ). commandOf (a .run .now) (a .j - y + c .before .before .before .before .loop .x)) k) (c .if2 .left), omega arith)
+    let l = head (c .before) in
+    let a = entry l .args in (
+      same-next (inSlots (a .slots .now)) (a .run .now) (a .sets .now) (a .a) (a .j) (l .loop .x) _ _ (l .loop .inv .0)
+          (forward-is (c .before)) (command-is (c .before)) (c .if2 .left),
+      omega arith,
+    )
 
 mul-of : tie.Need-mul-of Inv-loop μ-loop
 mul-of c = search needs
@@ -84,21 +126,18 @@ element-copy-out-of c = search needs
 of-requires : tie.Need-of-requires Inv-loop μ-loop
 of-requires c κs = search needs
 
-add-u64-at : tie.Need-add-u64-at Inv-loop μ-loop
-add-u64-at c = search needs
-
-u64-at-requires : tie.Need-u64-at-requires Inv-loop μ-loop
-u64-at-requires c κs = search needs
+phi-requires : tie.Need-phi-requires Inv-loop μ-loop
+phi-requires c κs = omega (arith, entry (c .before .before .before) .pre)
 
 is-inside-requires : tie.Need-is-inside-requires Inv-loop μ-loop
 is-inside-requires c κs = search needs
 
 returns-3 : tie.Need-returns-3 Inv-loop μ-loop
 returns-3 c =
-    let a = c .before .before .before .before .before .before .before .before .before .before .before .args in
-    let k = c .before .before .before .before .before .before .before .before .byte-at .ensures .0 in
-    upper-fails (a .slots .now) (a .run .now) (a .sets .now) (a .a) (a .j) (omega (arith, k)) (c .before .before .before .before .before .before .loop .x) (omega (arith, k, c .before .before .before .before .before .before .loop .inv .1)) (c .before .before .before .before .before .before .loop .inv .0)
-    (sym (c .before .is-inside .ensures ∙ ap (λ (x : StateSet). inside (x .mask) (c .before .before .u64-at .result)) (c .before .before .before .of .ensures) ∙ ap (λ (y : ℕ). inside (getD (a .sets .now) (a .j) 0) y) (c .before .before .u64-at .ensures)) ∙ not-true _ (c .if3 .taken))
+    let l = passed (c .before) in
+    let a = entry l .args in
+    upper-fails (inSlots (a .slots .now)) (a .run .now) (a .sets .now) (a .a) (a .j) (room l) (l .loop .x)
+    (all-passed (c .before .before .before .before .before)) (l .loop .inv .0) (sym (upper-is (c .before)) ∙ not-true _ (c .if3 .taken))
 
 mul-of-2 : tie.Need-mul-of-2 Inv-loop μ-loop
 mul-of-2 c = search needs
@@ -109,23 +148,21 @@ element-copy-out-of-2 c = search needs
 of-requires-2 : tie.Need-of-requires-2 Inv-loop μ-loop
 of-requires-2 c κs = search needs
 
-add-u64-at-2 : tie.Need-add-u64-at-2 Inv-loop μ-loop
-add-u64-at-2 c = search needs
-
-u64-at-requires-2 : tie.Need-u64-at-requires-2 Inv-loop μ-loop
-u64-at-requires-2 c κs = search needs
+psi-requires : tie.Need-psi-requires Inv-loop μ-loop
+psi-requires c κs = omega (arith, entry (passed (c .before .before .before)) .pre)
 
 is-inside-requires-2 : tie.Need-is-inside-requires-2 Inv-loop μ-loop
 is-inside-requires-2 c κs = search needs
 
 returns-4 : tie.Need-returns-4 Inv-loop μ-loop
 returns-4 c =
-    let a = c .before .before .before .before .before .before .before .before .before .before .before .before .before .before .before .args in
-    let k = c .before .before .before .before .before .before .before .before .before .before .before .before .byte-at .ensures .0 in
-    lower-decides (a .slots .now) (a .run .now) (a .sets .now) (a .a) (a .j) (omega (arith, k)) (c .before .before .before .before .before .before .before .before .before .before .loop .x) (omega (arith, k, c .before .before .before .before .before .before .before .before .before .before .loop .inv .1)) (c .before .before .before .before .before .before .before .before .before .before .loop .inv .0) _
-    (sym (c .before .before .before .before .before .is-inside .ensures ∙ ap (λ (x : StateSet). inside (x .mask) (c .before .before .before .before .before .before .u64-at .result)) (c .before .before .before .before .before .before .before .of .ensures) ∙ ap (λ (y : ℕ). inside (getD (a .sets .now) (a .j) 0) y) (c .before .before .before .before .before .before .u64-at .ensures)) ∙ not-false _ (c .before .before .before .before .if3 .left))
-    (c .is-inside2 .ensures ∙ ap (λ (x : StateSet). inside (x .mask) (c .before .u64-at2 .result)) (c .before .before .of2 .ensures)
-    ∙ ap₂ (λ (y z : ℕ). inside (getD (a .sets .now) (a .j - z) 0) y) (c .before .u64-at2 .ensures) k)
+    let up = c .before .before .before .before .before in
+    let l = passed up in
+    let a = entry l .args in
+    lower-decides (inSlots (a .slots .now)) (a .run .now) (a .sets .now) (a .a) (a .j) (room l) (l .loop .x)
+    (all-passed (up .before .before .before .before)) (l .loop .inv .0) _ (sym (upper-is up) ∙ not-false _ (c .before .before .before .before .if3 .left))
+    (c .is-inside2 .ensures ∙ ap₂ (λ (x : StateSet) (y : ℕ). inside (x .mask) y) (c .before .before .of2 .ensures) (c .before .psi .ensures)
+    ∙ ap (λ (z : ℕ). inside (getD (a .sets .now) (a .j - z) 0) (psiAt (a .slots .now) (a .a))) (read l .k .ensures .0))
 
 pub fits-at-spec : {M : Type 1} → statement M
 fits-at-spec =
@@ -133,13 +170,10 @@ fits-at-spec =
     (tie.spec
     Inv-loop
     μ-loop
-    mul-at
-    byte-at-requires
+    k-requires
     returns
     loop-holds
-    add-byte-at
-    add-byte-at-2
-    byte-at-requires-2
+    forward-requires
     add-command-at
     command-at-requires
     returns-2
@@ -149,14 +183,12 @@ fits-at-spec =
     mul-of
     element-copy-out-of
     of-requires
-    add-u64-at
-    u64-at-requires
+    phi-requires
     is-inside-requires
     returns-3
     mul-of-2
     element-copy-out-of-2
     of-requires-2
-    add-u64-at-2
-    u64-at-requires-2
+    psi-requires
     is-inside-requires-2
     returns-4)

@@ -1,8 +1,10 @@
 -- `points_of` meets its contract. The loop's invariant: the numbers up to point j (`Numbered`). Assumes nothing.
-use mathlib.Core.Path.{_≡_, refl, subst}
+use mathlib.Core.Path.{_≡_, subst}
 use Prim.Native.Nat.{ℕ, _-_, _≤_}
 use native.Mathlib.Omega.{arith}
-use Rattle.assembly.specs.Rules.{ruleIn, Numbered}
+use Rattle.reversal.specs.Computed.Least.{Rule}
+use Rattle.assembly.specs.Fields.{inSlots}
+use Rattle.assembly.specs.Rules.{ruleOf, Numbered}
 use Rattle.assembly.proofs.Numbers.{numbered-start, numbered-next}
 use Rattle.assembly.proofs.points.points_of.Statement.{statement}
 use Rattle.assembly.proofs.points.points_of.Tie as tie
@@ -11,16 +13,29 @@ use Rattle.assembly.proofs.points.points_of.Lts as lts
 use Rattle.assembly.proofs.points.best.Reads as best-reads
 
 abbrev Inv-loop : tie.InvT-loop
-Inv-loop slots count run sets i fewest₀ items₀ j₀ fewest items j = Numbered (ruleIn slots run sets count) j fewest items × (j ≤ i)
+Inv-loop slots count run sets i fewest₀ items₀ j₀ fewest items j = Numbered (ruleOf (inSlots slots) run sets count) j fewest items × (j ≤ i)
 
 abbrev μ-loop : tie.MeasureT-loop
 μ-loop slots count run sets i fewest₀ items₀ j₀ fewest items j = i - j
+
+-- ---- places: the call's start, from the loop's head and from a turn's end
+abbrev start : tie.At-loop Inv-loop μ-loop → tie.Start Inv-loop μ-loop
+start c = c .before .before .before
+
+abbrev chosen : tie.After-struct-known2 Inv-loop μ-loop → tie.After-best Inv-loop μ-loop
+chosen c = c .before .before
+
+abbrev head : tie.After-best Inv-loop μ-loop → tie.At-loop Inv-loop μ-loop
+head c = c .before .before .before
+
+abbrev rule : tie.Start Inv-loop μ-loop → Rule
+rule c = ruleOf (inSlots (c .args .slots .now)) (c .args .run .now) (c .args .sets .now) (c .args .count)
 
 array-write-fewest : tie.Need-array-write-fewest Inv-loop μ-loop
 array-write-fewest c = omega arith
 
 loop-holds : tie.Need-loop-holds Inv-loop μ-loop
-loop-holds c = (numbered-start (ruleIn (c .before .before .args .slots .now) (c .before .before .args .run .now) (c .before .before .args .sets .now) (c .before .before .args .count)) refl (c .before .before .pre .2), omega arith)
+loop-holds c = (numbered-start (rule (c .before .before)) (c .before .before .pre .2), omega arith)
 
 add-best : tie.Need-add-best Inv-loop μ-loop
 add-best c = omega arith
@@ -57,16 +72,17 @@ loop-less c = omega arith
 
 loop-again : tie.Need-loop-again Inv-loop μ-loop
 loop-again c =
-    let a = c .before .before .before .before .before .before .before .before .args in
-    let l = c .before .before .before .before .before .loop in
-    (numbered-next (ruleIn (c .before .before .before .before .before .before .before .before .args .slots .now) (c .before .before .before .before .before .before .before .before .args .run .now) (c .before .before .before .before .before .before .before .before .args .sets .now) (c .before .before .before .before .before .before .before .before .args .count)) refl (c .before .before .before .before .before .before .before .before .pre .2) (l .j) (l .fewest) (l .items) _ _ (omega arith) (l .inv .0) (c .before .before .best .ensures), omega arith)
+    let t = chosen c in
+    let l = head t .loop in
+    let s = start (head t) in
+    (numbered-next (rule s) (s .pre .2) (l .j) (l .fewest) (l .items) _ _ (omega arith) (l .inv .0) (t .best .ensures), omega arith)
 
 returns : tie.Need-returns Inv-loop μ-loop
 returns c =
-    let a = c .before .before .before .before .args in
     let l = c .before .loop in
-    let done : l .j ≡ a .i = omega (arith, l .inv .1) in
-    subst (λ (x : ℕ). Numbered (ruleIn (c .before .before .before .before .args .slots .now) (c .before .before .before .before .args .run .now) (c .before .before .before .before .args .sets .now) (c .before .before .before .before .args .count)) x (l .fewest) (l .items)) done (l .inv .0)
+    let s = start (c .before) in
+    let done : l .j ≡ s .args .i = omega (arith, l .inv .1) in
+    subst (λ (x : ℕ). Numbered (rule s) x (l .fewest) (l .items)) done (l .inv .0)
 
 pub points-of-spec : {M : Type 1} → statement M
 points-of-spec =

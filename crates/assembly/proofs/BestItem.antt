@@ -12,15 +12,16 @@ use Rattle.base.specs.Bounded.{least}
 use Rattle.base.proofs.Tests.{true-T, both-l}
 use Rattle.base.proofs.Bounded.{least-le}
 use Rattle.reversal.specs.Computed.Least.{Rule, via}
-use Rattle.assembly.specs.Rules.{kAt, fitsAt, Chosen}
+use Rattle.assembly.specs.Fields.{Fields}
+use Rattle.assembly.specs.Rules.{fitsAt, Chosen}
 
 -- an item that fits has room
-pub fits-room : (slots s sets : List ℕ) (a j : ℕ) → fitsAt slots s sets a j ≡ true → kAt slots a ≤ j
+pub fits-room : (F : Fields) (s sets : List ℕ) (a j : ℕ) → fitsAt F s sets a j ≡ true → F .k a ≤ j
 unfolding fitsAt
-fits-room slots s sets a j e = leb→le (kAt slots a) j (both-l (leb (kAt slots a) j) (both _ (both _ _)) (true-T (fitsAt slots s sets a j) e))
+fits-room F s sets a j e = leb→le (F .k a) j (both-l (leb (F .k a) j) (both _ (both _ _)) (true-T (fitsAt F s sets a j) e))
 
 module _ (R : Rule) (ns : List ℕ) (j : ℕ) where
-  pub via-fit : (a k r x : ℕ) → R .fit a j ≡ true → k ≡ R .k a → r ≡ R .price a → x ≡ getD ns (j - k) 0 → r + x ≡ via R ns j a
+  via-fit : (a k r x : ℕ) → R .fit a j ≡ true → k ≡ R .k a → r ≡ R .price a → x ≡ getD ns (j - k) 0 → r + x ≡ via R ns j a
   unfolding via pick
   via-fit a k r x f p q e = rw (f, e, p, q)
 
@@ -57,18 +58,20 @@ module _ (R : Rule) (ns : List ℕ) (j : ℕ) where
     pub choice-out : R .fit a j ≡ false → Chosen R ns j (a + 1) number item
     choice-out f = keeps (omega (arith, via-none a f, g .most))
 
-    pub choice-kept : (sum : ℕ) → sum ≡ via R ns j a → number ≤ sum → Chosen R ns j (a + 1) number item
-    choice-kept sum e l = keeps (omega arith)
+    -- item a fits, and leads to r commands and the x from its lower point
+    module _ (k r x : ℕ) (fit : R .fit a j ≡ true) (p : k ≡ R .k a) (q : r ≡ R .price a) (e : x ≡ getD ns (j - k) 0) where
+      pub choice-kept : number ≤ r + x → Chosen R ns j (a + 1) number item
+      choice-kept l = keeps (omega (arith, via-fit a k r x fit p q e))
 
-    -- a shorter way
-    pub choice-taken : (sum : ℕ) → sum ≡ via R ns j a → sum < number → Chosen R ns j (a + 1) sum a
-    unfolding least
-    choice-taken sum e l =
-        record {
-          least-is = rw add-one (omega (arith, g .least-is));
-          most = omega (arith, g .most);
-          within = omega arith;
-          known = λ h. omega arith;
-          here = λ h. sym e;
-          lowest = λ h b m. omega (arith, least-le (R .top) (via R ns j) a b m, g .least-is);
-        }
+      -- a shorter way
+      pub choice-taken : r + x < number → Chosen R ns j (a + 1) (r + x) a
+      unfolding least
+      choice-taken l =
+          record {
+            least-is = rw add-one (omega (arith, g .least-is, via-fit a k r x fit p q e));
+            most = omega (arith, g .most);
+            within = omega arith;
+            known = λ h. omega arith;
+            here = λ h. sym (via-fit a k r x fit p q e);
+            lowest = λ h b m. omega (arith, least-le (R .top) (via R ns j) a b m, g .least-is);
+          }

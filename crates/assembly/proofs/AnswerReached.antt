@@ -1,0 +1,145 @@
+-- Of items whose fields the call reads and a run that is fine: what the numbers and the walk down the items leave is the answer. Assumes nothing.
+use mathlib.Core.Path.{_≡_, refl, sym, ap, ap₂, _∙_, subst}
+use mathlib.Core.List.{List, _++_}
+use Prim.Native.Nat.{ℕ, _-_, _≤_, _<_}
+use native.Mathlib.Omega.{arith}
+use borrow.Author.Tests.{eq-eqb, ne-eqb}
+use lib.ListN.{length, getD, replicate, List·getD-append}
+use lib.Seq.{sets}
+use Rattle.base.specs.Tests.{pick}
+use Rattle.base.specs.Lists.{Each}
+use Rattle.reversal.specs.Device.{Device}
+use Rattle.reversal.specs.Reversal.{Item}
+use Rattle.reversal.specs.Runs.{Run, last}
+use Rattle.reversal.specs.Chains.{none, planOf, legsOf}
+use Rattle.reversal.specs.Answers.{Allowed, Answer, refused, assembled}
+use Rattle.reversal.specs.Computed.Beliefs.{belief}
+use Rattle.reversal.specs.Computed.Least.{Rule, Linked, total, leasts, leastAt, chosen}
+use Rattle.reversal.specs.Computed.Assembly.{rule, numbers, answer}
+use Rattle.reversal.proofs.Shortest.{leasts-length, leasts-at, least-most, chosen-linked}
+use Rattle.reversal.proofs.Assembling.{sound, total-cost}
+use Rattle.runs.specs.Computed.{runOf}
+use Rattle.runs.proofs.Points.{last-is, command-is}
+use Rattle.assembly.specs.declared.Assembly.{Assembly}
+use Rattle.assembly.specs.declared.chain.Counts.{Counts}
+use Rattle.assembly.specs.Believed.{Believed}
+use Rattle.assembly.specs.Fields.{Fields, FieldsOf}
+use Rattle.assembly.specs.Rules.{ruleOf, Numbered}
+use Rattle.assembly.specs.ChainFollowed.{followed, Steps, planIn, legsIn, walk, Walkable, Walked}
+use Rattle.assembly.specs.Assembles.{refusal, resultOf, legsBytes}
+use Rattle.assembly.proofs.RulesAgree.{numbered-same}
+use Rattle.assembly.proofs.ItemsFit.{rule-agrees}
+use Rattle.assembly.proofs.FollowedIsChosen.{followed-chosen, linked-known, plan-same, legs-same}
+
+-- result, plan and legs hold the answer a
+pub record Stored (a : Answer) (plan legs : List ℕ) (r : Assembly) (plan′ legs′ : List ℕ) : Type 0 where
+  pub result-is : r ≡ resultOf a
+  pub plan-is : plan′ ≡ sets plan 0 (a .plan-bytes)
+  pub legs-is : legs′ ≡ sets legs 0 (legsBytes (a .plan-legs))
+
+module _ (dev : Device) (items : List Item) (run : List ℕ) (allowed : Allowed dev items (runOf run)) (F : Fields) (fields : FieldsOf items F)
+    (beliefs : List ℕ) (believed : Believed dev (runOf run) beliefs) (plan legs : List ℕ) where
+  abbrev r : Run
+  r = runOf run
+
+  abbrev i : ℕ
+  i = last r
+
+  abbrev Q : Rule
+  Q = rule dev r items
+
+  -- ---- code 10
+  module _ (none-left : getD beliefs 0 0 ≡ 0) where
+    answer-10 : answer dev items r ≡ refused 10 (replicate 33 none)
+    unfolding answer pick
+    answer-10 = rw (eq-eqb (belief dev r 0) 0 (sym (believed .each 0 (omega arith)) ∙ none-left))
+
+    pub no-state : {w : Assembly} → w ≡ refusal 10 0 → Stored (answer dev items r) plan legs w plan legs
+    unfolding legsBytes
+    no-state {w} e =
+        subst (λ (a : Answer). Stored a plan legs w plan legs) (sym answer-10) (record { result-is = e; plan-is = refl; legs-is = refl })
+
+  -- ---- codes 11 and 0
+  module _ (some : getD beliefs 0 0 ≡ 0 → ⊥) {fewest firsts : List ℕ} (fieldwise : Numbered (ruleOf F run beliefs (length items)) i fewest firsts) where
+    possible : belief dev r 0 ≡ 0 → ⊥
+    possible e = some (believed .each 0 (omega arith) ∙ e)
+
+    num : Numbered Q i fewest firsts
+    num =
+        numbered-same
+        (rule-agrees dev r items F fields run beliefs (λ y q. command-is run y (omega (arith, last-is run))) (believed .each)) fieldwise
+
+    fewest-is : fewest ≡ numbers dev r items
+    unfolding numbers
+    fewest-is = num .fewest
+
+    least-is : getD fewest i 0 ≡ leastAt Q i
+    least-is =
+        ap (λ (ns : List ℕ). getD ns i 0) (num .fewest)
+        ∙ List·getD-append (leasts Q i) (replicate (32 - i) none) 0 i (omega (arith, leasts-length Q i))
+        ∙ leasts-at Q i i (omega arith)
+
+    module _ (no-number : getD fewest i 0 ≡ none) where
+      answer-11 : answer dev items r ≡ refused 11 fewest
+      unfolding answer pick
+      answer-11 = rw (ne-eqb (belief dev r 0) 0 possible, eq-eqb (leastAt Q i) none (sym least-is ∙ no-number)) (ap (refused 11) (sym fewest-is))
+
+      pub no-chain : Stored (answer dev items r) plan legs (record { code = 11; place = 0; commands = 0; legs = 0; fewest = fewest }) plan legs
+      unfolding legsBytes
+      no-chain =
+          subst
+          (λ (a : Answer). Stored a plan legs (record { code = 11; place = 0; commands = 0; legs = 0; fewest = fewest }) plan legs)
+          (sym answer-11) (record { result-is = refl; plan-is = refl; legs-is = refl })
+
+    module _ (number : getD fewest i 0 ≡ none → ⊥) where
+      abbrev xs : List ℕ
+      xs = chosen Q i i
+
+      answer-0 : answer dev items r ≡ assembled items i xs fewest
+      unfolding answer pick
+      answer-0 =
+          rw (ne-eqb (belief dev r 0) 0 possible, ne-eqb (leastAt Q i) none (λ e. number (least-is ∙ e)))
+          (ap (assembled items i xs) (sym fewest-is))
+
+      below : leastAt Q i < none
+      below = strictly (least-most Q (sound dev items r allowed) i) (λ e. number (least-is ∙ e))
+        where
+          strictly : {x : ℕ} → x ≤ none → (x ≡ none → ⊥) → x < none
+          strictly {x} l d = omega (arith, l, d)
+
+      linked : Linked Q i xs × (total Q xs ≡ leastAt Q i)
+      linked = chosen-linked Q (sound dev items r allowed) i i (omega arith) below
+
+      known : Each (λ a. a < length items) xs
+      known = linked-known Q xs i (linked .0)
+
+      walks : (followed F firsts i i ≡ xs) × Steps F firsts i i
+      walks = followed-chosen Q (sound dev items r allowed) F (fields .k-is) num i i (omega arith) (omega arith) below
+
+      plan-is : planIn F (walk F firsts i) ≡ planOf items xs
+      plan-is = ap (planIn F) (walks .0) ∙ plan-same items F fields xs known
+
+      legs-are : legsIn F i (walk F firsts i) ≡ legsBytes (legsOf items i xs)
+      legs-are = ap (legsIn F i) (walks .0) ∙ legs-same items F fields xs i known
+
+      pub walkable : Walkable F firsts i
+      walkable =
+          record {
+            low = allowed .run .short;
+            steps = walks .1;
+            short = omega (arith, ap (λ (l : List ℕ). length l) plan-is, total-cost dev items r allowed xs, linked .1, below);
+          }
+
+      pub chain-stored : {w : Counts} {plan′ legs′ : List ℕ} → Walked F firsts i plan legs w plan′ legs′
+          → Stored (answer dev items r) plan legs (record { code = 0; place = 0; commands = w .commands; legs = w .legs; fewest = fewest }) plan′ legs′
+      chain-stored {w} {plan′} {legs′} g =
+          subst
+          (λ (a : Answer). Stored a plan legs (record { code = 0; place = 0; commands = w .commands; legs = w .legs; fewest = fewest }) plan′ legs′)
+          (sym answer-0)
+          (record {
+            result-is =
+                ap₂ (λ (x y : ℕ). record { code = 0; place = 0; commands = x; legs = y; fewest = fewest })
+                (g .commands-is ∙ ap (λ (l : List ℕ). length l) plan-is) (g .count-is ∙ ap (λ (l : List ℕ). length l) (walks .0));
+            plan-is = g .plan-is ∙ ap (sets plan 0) plan-is;
+            legs-is = g .legs-is ∙ ap (sets legs 0) legs-are;
+          })

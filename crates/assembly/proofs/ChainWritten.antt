@@ -1,0 +1,192 @@
+-- Writing the chain down the items, turn by turn: what is left to write gives the whole (`Walking`). Assumes nothing.
+use mathlib.Core.Path.{_≡_, refl, sym, ap, _∙_, subst}
+use mathlib.Core.List.{List, [], _∷_, _++_}
+use Prim.Native.Nat.{ℕ, zero, suc, _+_, _-_, _*_, _≤_, _<_}
+use native.Mathlib.Omega.{arith}
+use lib.ListN.{length, getD, length-append}
+use lib.Seq.{sets, length-sets}
+use Rattle.num.specs.Le.{bytesLe}
+use Rattle.num.proofs.Le.{byte-one}
+use Rattle.num.proofs.Put.{sets-append}
+use Rattle.assembly.specs.Fields.{Fields}
+use Rattle.assembly.specs.ChainFollowed.{followed, Steps, planIn, legBytes, legsIn, walk, Walkable, Walked}
+use Rattle.assembly.specs.declared.chain.Counts.{Counts}
+
+-- ---- a leg in three stores
+pub leg-stored : (l : List ℕ) (at a u v : ℕ) {d e f : List ℕ} → a < 256 → u < 256 → v < 256 → d ≡ sets l at (bytesLe 1 a)
+    → e ≡ sets d (at + 1) (bytesLe 1 u) → f ≡ sets e (at + 2) (bytesLe 1 v) → f ≡ sets l at (legBytes a u v)
+leg-stored l at a u v {d} {e} {f} ha hu hv p q r =
+    r ∙ ap (sets e (at + 2)) (byte-one v hv)
+    ∙ ap (λ (x : List ℕ). sets x (at + 2) (v ∷ [])) two
+    ∙ sets-append l at (at + 2) (a ∷ u ∷ []) (v ∷ []) refl
+  where
+    one : d ≡ sets l at (a ∷ [])
+    one = p ∙ ap (sets l at) (byte-one a ha)
+
+    two : e ≡ sets l at (a ∷ u ∷ [])
+    two =
+        q ∙ ap (sets d (at + 1)) (byte-one u hu) ∙ ap (λ (x : List ℕ). sets x (at + 1) (u ∷ [])) one
+        ∙ sets-append l at (at + 1) (a ∷ []) (u ∷ []) refl
+
+-- ---- the chain
+-- the item at point j, and its number of forward commands
+abbrev at : List ℕ → ℕ → ℕ
+at items j = getD items j 0
+
+abbrev down : Fields → List ℕ → ℕ → ℕ
+down F items j = F .k (at items j)
+
+-- its first item, with f more at most
+record Next (F : Fields) (items : List ℕ) (f j : ℕ) : Type 0 where
+  rest : ℕ
+  fewer : f ≡ suc rest
+  chain : followed F items f j ≡ at items j ∷ followed F items rest (j - down F items j)
+  goes : Steps F items f j → (1 ≤ down F items j) × (down F items j ≤ j) × Steps F items rest (j - down F items j)
+
+next : (F : Fields) (items : List ℕ) (f j : ℕ) → j ≤ f → 0 < j → Next F items f j
+unfolding followed Steps
+next F items zero zero l h = absurd (omega arith)
+next F items zero (suc j) l h = absurd (omega arith)
+next F items (suc f) zero l h = absurd (omega arith)
+next F items (suc f) (suc j) l h = record { rest = f; fewer = refl; chain = refl; goes = λ s. s }
+
+followed-none : (F : Fields) (items : List ℕ) (f : ℕ) → followed F items f 0 ≡ []
+unfolding followed
+followed-none F items zero = refl
+followed-none F items (suc f) = refl
+
+plan-nil : (F : Fields) → planIn F [] ≡ []
+unfolding planIn
+plan-nil F = refl
+
+plan-cons : (F : Fields) (a : ℕ) (xs : List ℕ) → planIn F (a ∷ xs) ≡ F .reverse a ++ planIn F xs
+unfolding planIn
+plan-cons F a xs = refl
+
+legs-nil : (F : Fields) (j : ℕ) → legsIn F j [] ≡ []
+unfolding legsIn
+legs-nil F j = refl
+
+legs-cons : (F : Fields) (j a : ℕ) (xs : List ℕ) → legsIn F j (a ∷ xs) ≡ legBytes a j (j - F .k a) ++ legsIn F (j - F .k a) xs
+unfolding legsIn
+legs-cons F j a xs = refl
+
+sets-none : (l : List ℕ) (p : ℕ) → sets l p [] ≡ l
+sets-none l p = refl
+
+-- ---- the loop
+-- at point j, after `count` items, with `left` more at most
+pub record Walking (F : Fields) (items : List ℕ) (i : ℕ) (plan₀ legs₀ plan legs : List ℕ) (j commands count : ℕ) : Type 0 where
+  pub left : ℕ
+  pub counted : count + left ≡ i
+  pub room : j ≤ left
+  pub steps : Steps F items left j
+  pub plan-size : length plan ≡ length plan₀
+  pub legs-size : length legs ≡ length legs₀
+  pub plan-todo : sets plan commands (planIn F (followed F items left j)) ≡ sets plan₀ 0 (planIn F (walk F items i))
+  pub legs-todo : sets legs (3 * count) (legsIn F j (followed F items left j)) ≡ sets legs₀ 0 (legsIn F i (walk F items i))
+  pub commands-todo : commands + length (planIn F (followed F items left j)) ≡ length (planIn F (walk F items i))
+  pub count-todo : count + length (followed F items left j) ≡ length (walk F items i)
+
+pub walking-start : {F : Fields} {items : List ℕ} {i : ℕ} {plan₀ legs₀ : List ℕ} → Walkable F items i
+    → Walking F items i plan₀ legs₀ plan₀ legs₀ i 0 0
+walking-start {F} {items} {i} {plan₀} {legs₀} w =
+    record {
+      left = i;
+      counted = omega arith;
+      room = omega arith;
+      steps = w .steps;
+      plan-size = refl;
+      legs-size = refl;
+      plan-todo = refl;
+      legs-todo = refl;
+      commands-todo = omega arith;
+      count-todo = omega arith;
+    }
+
+module _ {F : Fields} {items : List ℕ} {i : ℕ} {plan₀ legs₀ plan legs : List ℕ} {j commands count : ℕ}
+    (g : Walking F items i plan₀ legs₀ plan legs j commands count) where
+  -- the item at point j goes down, and not below 0
+  pub step-down : 0 < j → (a k : ℕ) → a ≡ at items j → k ≡ F .k a → (1 ≤ k) × (k ≤ j)
+  step-down h a k ea ek =
+      let (u, v, w) = next F items (g .left) j (g .room) h .goes (g .steps) in
+      let e : k ≡ down F items j = ek ∙ ap (F .k) ea in
+      (omega arith, omega arith)
+
+  module _ (h : 0 < j) (a k r : ℕ) (ea : a ≡ at items j) (ek : k ≡ F .k a) (er : r ≡ length (F .reverse a)) where
+    abbrev n : Next F items (g .left) j
+    n = next F items (g .left) j (g .room) h
+
+    goes : (1 ≤ down F items j) × (down F items j ≤ j) × Steps F items (n .rest) (j - down F items j)
+    goes = n .goes (g .steps)
+
+    low : j - k ≡ j - down F items j
+    low = ap (λ (x : ℕ). j - x) (ek ∙ ap (F .k) ea)
+
+    abbrev xs : List ℕ
+    xs = followed F items (n .rest) (j - k)
+
+    chain : followed F items (g .left) j ≡ a ∷ xs
+    chain =
+        n .chain ∙ ap (λ (x : ℕ). x ∷ followed F items (n .rest) (j - down F items j)) (sym ea)
+        ∙ ap (λ (x : ℕ). a ∷ followed F items (n .rest) x) (sym low)
+
+    plan-is : planIn F (followed F items (g .left) j) ≡ F .reverse a ++ planIn F xs
+    plan-is = ap (planIn F) chain ∙ plan-cons F a xs
+
+    legs-is : legsIn F j (followed F items (g .left) j) ≡ legBytes a j (j - k) ++ legsIn F (j - k) xs
+    legs-is = ap (legsIn F j) chain ∙ legs-cons F j a xs ∙ ap (λ (x : ℕ). legBytes a j (j - x) ++ legsIn F (j - x) xs) (sym ek)
+
+    sizes : length (planIn F (followed F items (g .left) j)) ≡ length (F .reverse a) + length (planIn F xs)
+    sizes = ap (λ (x : List ℕ). length x) plan-is ∙ length-append (F .reverse a) (planIn F xs)
+
+    pub step-commands : commands + r ≤ length (planIn F (walk F items i))
+    step-commands = omega (arith, g .commands-todo, sizes)
+
+    module _ {plan′ legs′ : List ℕ} (ep : plan′ ≡ sets plan commands (F .reverse a)) (el : legs′ ≡ sets legs (3 * count) (legBytes a j (j - k))) where
+      plan-todo : sets plan′ (commands + r) (planIn F xs) ≡ sets plan₀ 0 (planIn F (walk F items i))
+      plan-todo =
+          ap (λ (x : List ℕ). sets x (commands + r) (planIn F xs)) ep
+          ∙ sets-append plan commands (commands + r) (F .reverse a) (planIn F xs) (omega arith)
+          ∙ ap (sets plan commands) (sym plan-is) ∙ g .plan-todo
+
+      legs-todo : sets legs′ (3 * (count + 1)) (legsIn F (j - k) xs) ≡ sets legs₀ 0 (legsIn F i (walk F items i))
+      legs-todo =
+          ap (λ (x : List ℕ). sets x (3 * (count + 1)) (legsIn F (j - k) xs)) el
+          ∙ sets-append legs (3 * count) (3 * (count + 1)) (legBytes a j (j - k)) (legsIn F (j - k) xs) (omega arith)
+          ∙ ap (sets legs (3 * count)) (sym legs-is) ∙ g .legs-todo
+
+      pub walking-next : Walking F items i plan₀ legs₀ plan′ legs′ (j - k) (commands + r) (count + 1)
+      walking-next =
+          record {
+            left = n .rest;
+            counted = omega (arith, g .counted, n .fewer);
+            room = omega (arith, g .room, n .fewer, ek, ap (F .k) ea, goes .0);
+            steps = subst (Steps F items (n .rest)) (sym low) (goes .2);
+            plan-size = ap (λ (x : List ℕ). length x) ep ∙ length-sets plan commands (F .reverse a) ∙ g .plan-size;
+            legs-size = ap (λ (x : List ℕ). length x) el ∙ length-sets legs (3 * count) (legBytes a j (j - k)) ∙ g .legs-size;
+            plan-todo = plan-todo;
+            legs-todo = legs-todo;
+            commands-todo = omega (arith, g .commands-todo, sizes);
+            count-todo = omega (arith, g .count-todo, ap (λ (x : List ℕ). length x) chain);
+          }
+
+  -- at point 0 nothing is left
+  module _ (z : j ≡ 0) where
+    done : followed F items (g .left) j ≡ []
+    done = ap (followed F items (g .left)) z ∙ followed-none F items (g .left)
+
+    plan-done : planIn F (followed F items (g .left) j) ≡ []
+    plan-done = ap (planIn F) done ∙ plan-nil F
+
+    legs-done : legsIn F j (followed F items (g .left) j) ≡ []
+    legs-done = ap (legsIn F j) done ∙ legs-nil F j
+
+    pub walked : Walked F items i plan₀ legs₀ (record { commands = commands; legs = count }) plan legs
+    walked =
+        record {
+          plan-is = sym (ap (sets plan commands) plan-done ∙ sets-none plan commands) ∙ g .plan-todo;
+          legs-is = sym (ap (sets legs (3 * count)) legs-done ∙ sets-none legs (3 * count)) ∙ g .legs-todo;
+          commands-is = omega (arith, g .commands-todo, ap (λ (x : List ℕ). length x) plan-done);
+          count-is = omega (arith, g .count-todo, ap (λ (x : List ℕ). length x) done);
+        }

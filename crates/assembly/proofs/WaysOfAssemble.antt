@@ -1,0 +1,196 @@
+-- The ways through assembling, over checking's contract. Assumes nothing.
+use mathlib.Core.Path.{_≡_, refl, sym, ap, ap₂, _∙_, subst, subst₂}
+use mathlib.Core.Bool.{Bool, true, false, not}
+use mathlib.Core.List.{List}
+use Prim.Native.Nat.{ℕ, _≤_, _<_}
+use native.Mathlib.Omega.{arith}
+use lib.ListN.{length, getD}
+use lib.Seq.{sets}
+use Rattle.base.specs.Lists.{Bytes}
+use Rattle.base.proofs.Picks as picks
+use Rattle.base.proofs.Lists.{each-at}
+use Rattle.reversal.specs.Device.{Device, tabled}
+use Rattle.reversal.specs.Reversal.{AllowedItem}
+use Rattle.reversal.specs.Runs.{AllowedRun, last}
+use Rattle.reversal.specs.Chains.{absent, none}
+use Rattle.reversal.specs.Answers.{Allowed, Answer}
+use Rattle.book.specs.Book.{Book, deviceOf}
+use Rattle.book.proofs.Device.{device-proper, tabled-device}
+use Rattle.reader.specs.declared.Reading.{Reading}
+use Rattle.checker.specs.Contract.{checkBy, CheckAs}
+use Rattle.checker.proofs.Onward.{BookChecked, book-checked, checked-by, unchecked-by}
+use Rattle.runs.specs.Computed.{lastOf, runOf, runFaulty}
+use Rattle.runs.proofs.Points.{last-is}
+use Rattle.runs.proofs.Formed.{run-value}
+use Rattle.assembly.specs.declared.Assembly.{Assembly}
+use Rattle.assembly.specs.declared.chain.Counts.{Counts}
+use Rattle.assembly.specs.Believed.{Believed}
+use Rattle.assembly.specs.Fields.{FieldsOf, inSlots}
+use Rattle.assembly.specs.Rules.{ruleOf, Moving, Numbered}
+use Rattle.assembly.specs.ChainFollowed.{Walkable, Walked}
+use Rattle.assembly.specs.Assembles.{refusal, resultOf, legsBytes, inBytes, Room}
+use Rattle.assembly.specs.Contract.{answerOf, plannedBy, roomBy, assembleBy, AssembleAs}
+use Rattle.assembly.proofs.Room.{room-enough}
+use Rattle.assembly.proofs.SlotsOfBook.{slots-hold}
+use Rattle.assembly.proofs.AnswerReached as reached
+use Rattle.assembly.proofs.AnswerReached.{Stored}
+
+-- ---- a short buffer
+module _ {book run t d plan legs : List ℕ} (bytes : Bytes book) (run-bytes : Bytes run)
+    (short : (A : Type 0) (refuse fine : A) → refuse ≡ roomBy inBytes plan legs refuse fine) where
+  pub room-refused : {r : Assembly} → r ≡ refusal 1 0 → AssembleAs inBytes book run t d plan legs r t d plan legs
+  unfolding assembleBy
+  room-refused e =
+      record {
+        bytes = bytes;
+        run-bytes = run-bytes;
+        result = e ∙ short _ _ _;
+        table-is = short _ _ _;
+        slots-is = short _ _ _;
+        plan-is = short _ _ _;
+        legs-is = short _ _ _;
+      }
+
+-- ---- after checking
+pub record Entered (book run t d plan legs : List ℕ) (f : Reading) (t′ d′ : List ℕ) : Type 0 where
+  pub check : CheckAs book t d f t′ d′
+  pub run-bytes : Bytes run
+  pub room : Room inBytes plan legs
+
+module _ {book run t d plan legs : List ℕ} {f : Reading} {t′ d′ : List ℕ} (h : Entered book run t d plan legs f t′ d′) where
+  abbrev c : CheckAs book t d f t′ d′
+  c = h .check
+
+  -- where result, plan and legs are known, table and slots are as checking leaves them
+  module _ {r : Assembly} {plan′ legs′ : List ℕ} (result : r ≡ checkBy book t d refusal (plannedBy run refusal resultOf))
+      (plan-is : plan′ ≡ checkBy book t d (λ code place. plan) (plannedBy run (λ code place. plan) (λ a. sets plan 0 (a .plan-bytes))))
+      (legs-is : legs′ ≡ checkBy book t d (λ code place. legs) (plannedBy run (λ code place. legs) (λ a. sets legs 0 (legsBytes (a .plan-legs))))) where
+    after-check : AssembleAs inBytes book run t d plan legs r t′ d′ plan′ legs′
+    unfolding assembleBy
+    after-check =
+        record {
+          bytes = c .bytes;
+          run-bytes = h .run-bytes;
+          result = result ∙ room-enough inBytes plan legs _ _ (h .room);
+          table-is = c .table ∙ room-enough inBytes plan legs _ _ (h .room);
+          slots-is = c .slots ∙ room-enough inBytes plan legs _ _ (h .room);
+          plan-is = plan-is ∙ room-enough inBytes plan legs _ _ (h .room);
+          legs-is = legs-is ∙ room-enough inBytes plan legs _ _ (h .room);
+        }
+
+  pub not-accepted : (f .code ≡ 0 → ⊥) → {r : Assembly} → r ≡ refusal (f .code) (f .place) → AssembleAs inBytes book run t d plan legs r t′ d′ plan legs
+  not-accepted n e = after-check (e ∙ sym (unchecked-by c _ _ n)) (sym (unchecked-by c _ _ n)) (sym (unchecked-by c _ _ n))
+
+  -- the book is accepted
+  module _ (z : f .code ≡ 0) where
+    abbrev g : BookChecked book t d f t′ d′
+    g = book-checked c z
+
+    abbrev b : Book
+    b = g .book
+
+    n-is : f .n ≡ b .n
+    n-is = ap (λ (x : Reading). x .n) (g .result)
+
+    m-is : f .m ≡ b .m
+    m-is = ap (λ (x : Reading). x .m) (g .result)
+
+    items-is : f .items ≡ length (b .items)
+    items-is = ap (λ (x : Reading). x .items) (g .result)
+
+    -- what the passes ask
+    pub limits : (f .n ≤ 64) × (f .m ≤ 32) × (f .items ≤ 64)
+    limits =
+        let d = g .accepted .allowed .device in
+        (omega (arith, n-is, d .n-high), omega (arith, m-is, d .m-high), omega (arith, items-is, g .accepted .allowed .few))
+
+    fields : FieldsOf (b .items) (inSlots d′)
+    fields = subst (λ (s : List ℕ). FieldsOf (b .items) (inSlots s)) (sym (g .slots)) (slots-hold b (g .accepted .allowed) d (g .long .1))
+
+    pub movable : Moving (inSlots d′) (f .items)
+    movable a l =
+        let known = subst (λ (n : ℕ). a < n) items-is l in
+        omega (arith, fields .k-is a known, each-at (AllowedItem (deviceOf b)) (b .items) (g .accepted .allowed .each-item) a absent known .some)
+
+    device-is : tabled (f .n) (f .m) t′ ≡ deviceOf b
+    device-is =
+        ap (λ (x : Reading). tabled (x .n) (x .m) t′) (g .result) ∙ ap (tabled (b .n) (b .m)) (g .table)
+        ∙ tabled-device b t (g .accepted .allowed) (g .long .0)
+
+    -- ---- the run
+    twice : (v : Bool) → not (not v) ≡ v
+    twice true = refl
+    twice false = refl
+
+    faulty-is : {x : Bool} → x ≡ not (runFaulty (f .n) (f .m) run) → {y : Bool} → not x ≡ y → runFaulty (b .n) (b .m) run ≡ y
+    faulty-is {x} e q =
+        ap₂ (λ (n m : ℕ). runFaulty n m run) (sym n-is) (sym m-is) ∙ sym (twice (runFaulty (f .n) (f .m) run)) ∙ ap not (sym e) ∙ q
+
+    pub run-refused : {x : Bool} → x ≡ not (runFaulty (f .n) (f .m) run) → not x ≡ true → {r : Assembly} → r ≡ refusal 9 0
+        → AssembleAs inBytes book run t d plan legs r t′ d′ plan legs
+    run-refused e q p =
+        let y = faulty-is e q in
+        after-check (picks.yes _ _ _ _ y p ∙ sym (checked-by c _ _ g)) (picks.yes _ _ _ _ y refl ∙ sym (checked-by c _ _ g))
+        (picks.yes _ _ _ _ y refl ∙ sym (checked-by c _ _ g))
+
+    module _ {x : Bool} (e : x ≡ not (runFaulty (f .n) (f .m) run)) (q : not x ≡ false) where
+      fine : runFaulty (b .n) (b .m) run ≡ false
+      fine = faulty-is e q
+
+      run-ok : AllowedRun (deviceOf b) (runOf run)
+      run-ok = run-value (deviceOf b) run (h .run-bytes) fine .0
+
+      allowed : Allowed (deviceOf b) (b .items) (runOf run)
+      allowed = record { device = device-proper b (g .accepted .allowed); each = g .accepted .allowed .each-item; run = run-ok }
+
+      pub low : lastOf run ≤ 32
+      low = omega (arith, last-is run, run-ok .short)
+
+      -- with the answer stored
+      module _ {r : Assembly} {plan′ legs′ : List ℕ} (s : Stored (answerOf b run) plan legs r plan′ legs′) where
+        planned : {A : Type 0} (refuse : ℕ → ℕ → A) (done : Answer → A) → done (answerOf b run) ≡ checkBy book t d refuse (plannedBy run refuse done)
+        planned refuse done =
+            picks.no (done (answerOf b run)) (refuse 9 0) (done (answerOf b run)) (runFaulty (b .n) (b .m) run) fine refl
+            ∙ sym (checked-by c _ _ g)
+
+        answered : AssembleAs inBytes book run t d plan legs r t′ d′ plan′ legs′
+        answered =
+            after-check (s .result-is ∙ planned refusal resultOf) (s .plan-is ∙ planned (λ code place. plan) (λ a. sets plan 0 (a .plan-bytes)))
+            (s .legs-is ∙ planned (λ code place. legs) (λ a. sets legs 0 (legsBytes (a .plan-legs))))
+
+      module _ {beliefs : List ℕ} (believed : Believed (tabled (f .n) (f .m) t′) (runOf run) beliefs) where
+        held : Believed (deviceOf b) (runOf run) beliefs
+        held = subst (λ (v : Device). Believed v (runOf run) beliefs) device-is believed
+
+        pub no-state : getD beliefs 0 0 ≡ 0 → {r : Assembly} → r ≡ refusal 10 0 → AssembleAs inBytes book run t d plan legs r t′ d′ plan legs
+        no-state s p = answered (reached.no-state (deviceOf b) (b .items) run allowed (inSlots d′) fields beliefs held plan legs s p)
+
+        module _ (some : getD beliefs 0 0 ≡ 0 → ⊥) {i : ℕ} (last-point : i ≡ lastOf run) {fewest firsts : List ℕ}
+            (num : Numbered (ruleOf (inSlots d′) run beliefs (f .items)) i fewest firsts) where
+          i-is : i ≡ last (runOf run)
+          i-is = last-point ∙ last-is run
+
+          num′ : Numbered (ruleOf (inSlots d′) run beliefs (length (b .items))) (last (runOf run)) fewest firsts
+          num′ = subst₂ (λ (k j : ℕ). Numbered (ruleOf (inSlots d′) run beliefs k) j fewest firsts) items-is i-is num
+
+          number-is : getD fewest i 0 ≡ getD fewest (last (runOf run)) 0
+          number-is = ap (λ (j : ℕ). getD fewest j 0) i-is
+
+          pub no-number : getD fewest i 0 ≡ none
+              → AssembleAs inBytes book run t d plan legs (record { code = 11; place = 0; commands = 0; legs = 0; fewest = fewest }) t′ d′ plan legs
+          no-number s =
+              answered
+              (reached.no-chain (deviceOf b) (b .items) run allowed (inSlots d′) fields beliefs held plan legs some num′ (sym number-is ∙ s))
+
+          module _ (number : getD fewest i 0 ≡ none → ⊥) where
+            pub can-walk : Walkable (inSlots d′) firsts i
+            can-walk =
+                subst (Walkable (inSlots d′) firsts) (sym i-is)
+                (reached.walkable (deviceOf b) (b .items) run allowed (inSlots d′) fields beliefs held plan legs some num′ (λ e. number (number-is ∙ e)))
+
+            pub written : {w : Counts} {plan′ legs′ : List ℕ} → Walked (inSlots d′) firsts i plan legs w plan′ legs′
+                → AssembleAs inBytes book run t d plan legs (record { code = 0; place = 0; commands = w .commands; legs = w .legs; fewest = fewest }) t′ d′ plan′ legs′
+            written {w} {plan′} {legs′} k =
+                answered
+                (reached.chain-stored (deviceOf b) (b .items) run allowed (inSlots d′) fields beliefs held plan legs some num′ (λ e. number (number-is ∙ e))
+                (subst (λ (j : ℕ). Walked (inSlots d′) firsts j plan legs w plan′ legs′) i-is k))

@@ -1,0 +1,38 @@
+-- `put_reverse` meets its contract. Assumes nothing.
+use mathlib.Core.Path.{ap, _∙_}
+use Prim.Native.Nat.{ℕ, _+_, _*_}
+use borrow.Author.Needs.{needs}
+use lib.Seq.{sets}
+use Rattle.num.specs.Parts.{piece}
+use Rattle.num.proofs.Put.{length-piece}
+use Rattle.assembly.proofs.slot.put_reverse.Statement.{statement}
+use Rattle.assembly.proofs.slot.put_reverse.Tie as tie
+use Rattle.assembly.proofs.slot.put_reverse.Reads as reads
+use Rattle.assembly.proofs.slot.put_reverse.Lts as lts
+use Rattle.assembly.proofs.slot.r.Reads as r-reads
+use Rattle.num.proofs.copy.Reads as copy-reads
+
+r-requires : tie.Need-r-requires
+r-requires c κs = search needs
+
+mul-copy : tie.Need-mul-copy
+mul-copy c = search needs
+
+add-copy : tie.Need-add-copy
+add-copy c = search needs
+
+copy-requires : tie.Need-copy-requires
+copy-requires c κs = search needs
+
+same-length : tie.Need-same-length
+same-length c = search needs
+
+returns : tie.Need-returns
+returns c =
+    let a = c .before .before .before .before .before .before .before .args in
+    let r-is = c .before .before .before .before .r .ensures .0 ∙ length-piece _ _ _ in
+    c .before .before .copy .ensures ∙ ap (λ (x : ℕ). sets (a .plan .now) (a .at) (piece x (a .slots .now) (34 * a .a + 10))) r-is
+
+pub put-reverse-spec : {M : Type 1} → statement M
+put-reverse-spec =
+    tie.close (tie.spec r-requires mul-copy add-copy copy-requires same-length returns)

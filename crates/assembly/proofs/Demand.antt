@@ -12,7 +12,7 @@ use Rattle.reversal.specs.Answers.{Answer, assembled, Answers, no-history, no-c
 use Rattle.reversal.proofs.EndToEnd.{chain-undoes}
 use Rattle.book.specs.Book.{Book, deviceOf}
 use Rattle.checker.specs.Checks.{Checked, AllAccepted}
-use Rattle.checker.proofs.Unique.{accepted-book, check-codes}
+use Rattle.checker.proofs.Unique.{accepted-book, check-codes, not-eleven}
 use Rattle.runs.specs.RunBytes.{runBytes}
 use Rattle.assembly.specs.declared.Assembly.{Assembly}
 use Rattle.assembly.specs.Assembles.{refusal, resultOf, LegForm, Left, Assembles, short, unaccepted, faulty, answered}
@@ -102,7 +102,7 @@ module _ {E : Type 0} {form : LegForm E} (even : Even form) {book run t d plan�
   none-given : r .code ≡ 11 → Is
       → (b : Book) × ((u : Run) × Ready form book run t d plan₀ legs₀ b u × ((ys : List ℕ) → Chain (deviceOf b) u (b .items) (last u) ys → ⊥))
   none-given z (short a e k w) = absurd (omega (arith, code-of e))
-  none-given z (unaccepted room ck n e w) = absurd (omega (arith, code-of e, check-codes ck))
+  none-given z (unaccepted room ck n e w) = absurd (not-eleven (check-codes ck) (sym (code-of e) ∙ z))
   none-given z (faulty room b k n e w) = absurd (omega (arith, code-of e))
   none-given z (answered room b k u al ub an (no-history n q) w) = absurd (omega (arith, code-at w q))
   none-given z (answered room b k u al ub an (no-chain p v n ns m q) w) =
@@ -116,7 +116,7 @@ module _ {E : Type 0} {form : LegForm E} (even : Even form) {book run t d plan�
 
   numbers-of : ((r .code ≡ 0) ⊎ (r .code ≡ 11)) → Is → (b : Book) × ((u : Run) × Given book run b u × Numbers (deviceOf b) u (b .items) (r .fewest))
   numbers-of z (short a e k w) = absurd (neither z (code-of e) (λ q. omega arith) (λ q. omega arith))
-  numbers-of z (unaccepted room ck n e w) = absurd (neither z (code-of e) n (λ q. omega (arith, check-codes ck)))
+  numbers-of z (unaccepted room ck n e w) = absurd (neither z (code-of e) n (not-eleven (check-codes ck)))
   numbers-of z (faulty room b k n e w) = absurd (neither z (code-of e) (λ q. omega arith) (λ q. omega arith))
   numbers-of z (answered room b k u al ub an (no-history n q) w) = absurd (neither z (code-at w q) (λ v. omega arith) (λ v. omega arith))
   numbers-of z (answered room b k u al ub an (no-chain p v n ns m q) w) =

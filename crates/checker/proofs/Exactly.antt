@@ -11,7 +11,6 @@ use lib.Dec.{T, T-not}
 use lib.ListN.{length}
 use Rattle.base.specs.Lists.{Each}
 use Rattle.base.proofs.Lists.{each-at, each-of}
-use Rattle.base.proofs.Picks.{less-yes, less-no}
 use Rattle.base.proofs.Bounded.{seek-hit, seek-low}
 use Rattle.reversal.specs.Reversal.{AllowedItem, Accepted}
 use Rattle.reversal.specs.Chains.{absent, item}
@@ -32,10 +31,29 @@ use Rattle.reader.specs.Reads.{refusal, done, Long, Kept, Filled}
 use Rattle.reader.specs.Reads as reads
 use Rattle.reader.specs.Contract.{Short}
 use Rattle.reader.proofs.Exactly.{Way, by-short, by-fault, by-book, way, when-short, when-faulty, when-fine, not-both}
+use Rattle.checker.specs.declared.Judgement.{Judgement}
 use Rattle.checker.specs.Checks.{placeOf, FirstWrong, Checks, unread, wrong, fine}
-use Rattle.checker.specs.Contract.{wrongItem, judgedBy, checkBy, CheckAs}
+use Rattle.checker.specs.Contract.{wrongItem, judgementOf, onJudgement, judgedBy, checkBy, CheckAs}
+use Rattle.checker.proofs.Judging.{one-wrong, all-accepted as none-turned-down}
 
--- ---- the judgement of a book, by trajectories
+-- ---- the judgement of a book, by its test
+module _ (b : Book) where
+  hit : wrongItem b < length (b .items) → T (not (accepts (deviceOf b) (item (b .items) (wrongItem b))))
+  unfolding wrongItem
+  hit h = seek-hit (λ j. not (accepts (deviceOf b) (item (b .items) j))) (length (b .items)) 0 (omega arith)
+
+  pub by-wrong : wrongItem b < length (b .items) → {A : Type 0} (refuse : ℕ → ℕ → A) (found : A)
+      → onJudgement (judgementOf b) refuse found ≡ refuse 8 (placeOf b (wrongItem b))
+  by-wrong h refuse found = ap (λ (j : Judgement). onJudgement j refuse found) (one-wrong b h (go (accepts (deviceOf b) (item (b .items) (wrongItem b))) refl))
+    where
+      go : (x : Bool) → accepts (deviceOf b) (item (b .items) (wrongItem b)) ≡ x → accepts (deviceOf b) (item (b .items) (wrongItem b)) ≡ false
+      go true e = absurd (rw e at (hit h))
+      go false e = e
+
+  pub by-none : length (b .items) ≤ wrongItem b → {A : Type 0} (refuse : ℕ → ℕ → A) (found : A) → onJudgement (judgementOf b) refuse found ≡ found
+  by-none h refuse found = ap (λ (j : Judgement). onJudgement j refuse found) (none-turned-down b h)
+
+-- ---- by trajectories
 module _ (b : Book) (a : AllowedBook b) where
   accepted↔ : (i : ℕ) → i < length (b .items) → T (accepts (deviceOf b) (item (b .items) i)) ↔ Accepted (deviceOf b) (item (b .items) i)
   accepted↔ i l =
@@ -50,15 +68,11 @@ module _ (b : Book) (a : AllowedBook b) where
       go true e = accepted↔ i l .0 (rw e tt)
       go false e = absurd (omega (arith, seek-low (λ j. not (accepts (deviceOf b) (item (b .items) j))) (length (b .items)) 0 i zero-le (omega arith) (rw e tt)))
 
-  hit : wrongItem b < length (b .items) → T (not (accepts (deviceOf b) (item (b .items) (wrongItem b))))
-  unfolding wrongItem
-  hit h = seek-hit (λ j. not (accepts (deviceOf b) (item (b .items) j))) (length (b .items)) 0 (omega arith)
-
   pub first-wrong : wrongItem b < length (b .items) → FirstWrong b (wrongItem b)
   first-wrong h =
       record {
         known = h;
-        wrong = λ q. T-not (accepts (deviceOf b) (item (b .items) (wrongItem b))) (hit h) (accepted↔ (wrongItem b) h .1 q);
+        wrong = λ q. T-not (accepts (deviceOf b) (item (b .items) (wrongItem b))) (hit b h) (accepted↔ (wrongItem b) h .1 q);
         before = λ j l. accepted-before j l (omega arith);
       }
 
@@ -108,10 +122,10 @@ module _ {s t d : List ℕ} {r : Reading} {t′ d′ : List ℕ} (c : CheckAs s 
   result-book l b e = c .result ∙ when-fine s t d refusal (judgedBy refusal done) l b e
 
   pub result-wrong : Long t d → (b : Book) → parse s ≡ Ok b → wrongItem b < length (b .items) → r ≡ refusal 8 (placeOf b (wrongItem b))
-  result-wrong l b e h = result-book l b e ∙ sym (less-yes (refusal 8 (placeOf b (wrongItem b))) (refusal 8 (placeOf b (wrongItem b))) (done b) (wrongItem b) (length (b .items)) h refl)
+  result-wrong l b e h = result-book l b e ∙ by-wrong b h refusal (done b)
 
   pub result-fine : Long t d → (b : Book) → parse s ≡ Ok b → length (b .items) ≤ wrongItem b → r ≡ done b
-  result-fine l b e h = result-book l b e ∙ sym (less-no (done b) (refusal 8 (placeOf b (wrongItem b))) (done b) (wrongItem b) (length (b .items)) h refl)
+  result-fine l b e h = result-book l b e ∙ by-none b h refusal (done b)
 
   pub checks : Checks s t d r t′ d′
   checks = go (way s t d)

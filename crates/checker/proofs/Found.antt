@@ -1,4 +1,4 @@
--- A book that was read: its slots can be judged, the judgement is the book's, and the place of an item is counted from the end. Assumes nothing.
+-- The slots of a book that was read hold its items. Assumes nothing.
 use mathlib.Core.Path.{_≡_, sym, ap, _∙_}
 use mathlib.Core.Bool.{not}
 use mathlib.Core.List.{List, [], _∷_, _++_, map}
@@ -22,15 +22,9 @@ use Rattle.book.proofs.Bodies.{item-length}
 use Rattle.book.proofs.Slots.{slots-front}
 use Rattle.book.proofs.Items.{slot-at, slot-item}
 use Rattle.book.proofs.Device.{tabled-device}
-use Rattle.checker.specs.Judged.{Judgeable, firstWrong, sizeFrom}
+use Rattle.checker.specs.Judged.{Judgeable}
 use Rattle.checker.specs.Checks.{placeOf}
 use Rattle.checker.specs.Contract.{wrongItem}
-
--- the sizes of items' records add up
-sizes : (xs ys : List Item) → length (framed (map itemRec (xs ++ ys))) ≡ length (framed (map itemRec xs)) + length (framed (map itemRec ys))
-sizes [] ys = omega arith
-sizes (x ∷ xs) ys =
-    omega (arith, sizes xs ys, length-append (frame (itemRec x)) (framed (map itemRec (xs ++ ys))), length-append (frame (itemRec x)) (framed (map itemRec xs)))
 
 module _ (b : Book) (d : List ℕ) (a : AllowedBook b) (long : 2176 ≤ length d) where
   -- slot i begins with the slot of item i
@@ -65,38 +59,3 @@ module _ (b : Book) (d : List ℕ) (a : AllowedBook b) (long : 2176 ≤ length d
         forward = λ i l. omega (arith, forward-count i l, allowed-item i l .most);
         reverse = λ i l. omega (arith, reverse-count i l, allowed-item i l .reverse-most);
       }
-
-  pub wrong-is : (t : List ℕ) → 2048 ≤ length t → firstWrong (tabled (b .n) (b .m) (tableOf b t)) (slotsOf b d) (length (b .items)) ≡ wrongItem b
-  unfolding firstWrong wrongItem
-  wrong-is t l =
-      ap (λ (x : Device). seek (λ i. not (accepts x (itemAt (drop (34 * i) (slotsOf b d))))) 0 (length (b .items))) (tabled-device b t a l)
-      ∙ seek-same (λ i. not (accepts (deviceOf b) (itemAt (drop (34 * i) (slotsOf b d))))) (λ i. not (accepts (deviceOf b) (item (b .items) i))) (length (b .items)) 0
-      (λ i l h. ap (λ (x : Item). not (accepts (deviceOf b) x)) (item-is i (omega arith)))
-
-  -- ---- the place of an item
-  size-is : (c i : ℕ) → i + c ≡ length (b .items) → sizeFrom (slotsOf b d) i c ≡ length (framed (map itemRec (drop i (b .items))))
-  unfolding sizeFrom
-  size-is zero i e = rw (drop-of-length-le (b .items) past)
-    where
-      past : length (b .items) ≤ i
-      past = omega arith
-  size-is (suc c) i e =
-      let l : i < length (b .items) = omega arith in
-      let x = item (b .items) i in
-      rw (drop-cons (b .items) i absent l)
-      (omega (
-        arith,
-        size-is c (suc i) (omega arith),
-        forward-count i l,
-        reverse-count i l,
-        length-append (frame (itemRec x)) (framed (map itemRec (drop (suc i) (b .items)))),
-        length-frame (itemRec x),
-        item-length x,
-      ))
-
-  pub place-is : (i : ℕ) → i ≤ length (b .items) → placeOf b i + sizeFrom (slotsOf b d) i (length (b .items) - i) ≡ length (bytesOf b)
-  place-is i l =
-      let xs = b .items in
-      let before : Book = record { n = b .n; m = b .m; moves = b .moves; items = take i xs } in
-      let whole = ap (λ (ys : List Item). length (framed (map itemRec ys))) (sym (take-append-drop i xs)) in
-      omega (arith, book-length b, book-length before, whole, sizes (take i xs) (drop i xs), size-is (length xs - i) i (omega arith))

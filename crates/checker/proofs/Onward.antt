@@ -1,11 +1,10 @@
 -- For callers that go on with a book that was checked. Assumes nothing.
-use mathlib.Core.Path.{_≡_, refl, sym, ap, ap₂, _∙_}
+use mathlib.Core.Path.{_≡_, sym, ap, ap₂, _∙_}
 use mathlib.Core.List.{List}
 use Prim.Native.Nat.{ℕ, _<_}
 use native.Mathlib.Omega.{arith}
 use native.Mathlib.Decide.{decLt}
 use lib.ListN.{length}
-use Rattle.base.proofs.Picks.{less-yes, less-no}
 use Rattle.book.specs.Book.{Book}
 use Rattle.book.specs.Parse.{parse}
 use Rattle.book.specs.Parse.Parsed.{Ok}
@@ -14,9 +13,9 @@ use Rattle.book.proofs.Reading.{parse-bytes}
 use Rattle.reader.specs.declared.Reading.{Reading}
 use Rattle.reader.specs.Reads.{done, Long}
 use Rattle.reader.proofs.Exactly.{Way, by-short, by-fault, by-book, way, when-short, when-faulty, when-fine}
-use Rattle.checker.specs.Checks.{placeOf, AcceptedBook}
+use Rattle.checker.specs.Checks.{AcceptedBook}
 use Rattle.checker.specs.Contract.{wrongItem, judgedBy, checkBy, CheckAs}
-use Rattle.checker.proofs.Exactly.{none-wrong, result-short, result-faulty, result-wrong, result-fine, checks}
+use Rattle.checker.proofs.Exactly.{by-wrong, by-none, none-wrong, result-short, result-faulty, result-wrong, result-fine, checks}
 use Rattle.checker.proofs.Unique.{zero↔}
 
 -- a book was checked, and accepted
@@ -35,7 +34,7 @@ pub accepted-by : {A : Type 0} (s t d : List ℕ) (refuse : ℕ → ℕ → A) (
 unfolding checkBy
 accepted-by s t d refuse fine l b a =
     when-fine s t d refuse (judgedBy refuse fine) l b (ap parse (sym (a .bytes)) ∙ parse-bytes b (a .allowed))
-    ∙ sym (less-no (fine b) (refuse 8 (placeOf b (wrongItem b))) (fine b) (wrongItem b) (length (b .items)) (none-wrong b (a .allowed) (a .accepted)) refl)
+    ∙ by-none b (none-wrong b (a .allowed) (a .accepted)) refuse (fine b)
 
 module _ {s t d : List ℕ} {r : Reading} {t′ d′ : List ℕ} (c : CheckAs s t d r t′ d′) where
   pub book-checked : r .code ≡ 0 → BookChecked s t d r t′ d′
@@ -71,10 +70,7 @@ module _ {s t d : List ℕ} {r : Reading} {t′ d′ : List ℕ} (c : CheckAs s 
         judged : Long t d → (b : Book) → parse s ≡ Ok b → Dec (wrongItem b < length (b .items)) → checkBy s t d refuse fine ≡ refuse (r .code) (r .place)
         judged l b e (yes h) =
             let q = at (result-wrong c l b e h) in
-            same-refusal
-            (when-fine s t d refuse (judgedBy refuse fine) l b e
-            ∙ sym (less-yes (refuse 8 (placeOf b (wrongItem b))) (refuse 8 (placeOf b (wrongItem b))) (fine b) (wrongItem b) (length (b .items)) h refl))
-            (q .0) (q .1)
+            same-refusal (when-fine s t d refuse (judgedBy refuse fine) l b e ∙ by-wrong b h refuse (fine b)) (q .0) (q .1)
         judged l b e (no h) = absurd (n (at (result-fine c l b e (omega arith)) .0))
 
         go : Way s t d → checkBy s t d refuse fine ≡ refuse (r .code) (r .place)

@@ -17,6 +17,8 @@ use Rattle.reader.specs.declared.Reading.{Reading}
 use Rattle.reader.specs.Reads.{refusal, done, Long, Filled, Reads}
 use Rattle.reader.specs.Reads as reads
 use Rattle.reader.proofs.Unique.{same-filled, reads-unique, zero↔ as read-zero↔}
+use Rattle.checker.specs.declared.Verdict.the-variants.{Accepted as FineVerdict, NoReversePlan}
+use Rattle.checker.specs.Verdicts.{CheckCode, by-reading, by-verdict}
 use Rattle.checker.specs.Checks.{AllAccepted, AcceptedBook, placeOf, FirstWrong, Checked, Checks, unread, wrong, fine}
 
 one-wrong : (b : Book) {i j : ℕ} → FirstWrong b i → FirstWrong b j → i ≡ j
@@ -46,11 +48,17 @@ this-book {b = b} {b′ = b′} a same f = one-book b′ b (f .allowed) a (f .by
 pub accepted-book : {book table slots : List ℕ} {b : Book} {t s : List ℕ} → Checked book table slots b t s → AcceptedBook book b
 accepted-book k = record { allowed = k .filled .allowed; bytes = k .filled .bytes; accepted = k .accepted }
 
--- checking's codes
-pub check-codes : {book table slots : List ℕ} {r : Reading} {t s : List ℕ} → Checks book table slots r t s → r .code ≤ 8
-check-codes (unread x n) = omega (arith, read-codes x)
-check-codes (wrong b f w e) = omega (arith, ap (λ (x : Reading). x .code) e)
-check-codes (fine b k e) = omega (arith, ap (λ (x : Reading). x .code) e)
+-- checking answers with one of its codes
+pub check-codes : {book table slots : List ℕ} {r : Reading} {t s : List ℕ} → Checks book table slots r t s → CheckCode (r .code)
+check-codes (unread x n) = by-reading (read-codes x)
+check-codes (wrong b f w e) = rw e (by-verdict NoReversePlan)
+check-codes (fine b k e) = rw e (by-verdict FineVerdict)
+
+-- and so never with that of assembling's "no chain"
+pub not-eleven : {code : ℕ} → CheckCode code → code ≡ 11 → ⊥
+not-eleven (by-reading l) e = omega arith
+not-eleven (by-verdict FineVerdict) e = omega arith
+not-eleven (by-verdict NoReversePlan) e = omega arith
 
 module _ {book table slots : List ℕ} {r : Reading} {t s : List ℕ} (h : Bytes book) where
   pub checks-unique : {q : Reading} {t′ s′ : List ℕ} → Checks book table slots r t s → Checks book table slots q t′ s′ → (r ≡ q) × (t ≡ t′) × (s ≡ s′)

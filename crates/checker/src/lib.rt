@@ -2,11 +2,26 @@
 use reader::Reading;
 use states::StateSet;
 ghost use mathlib.Core.Path.{_≡_};
-ghost use Prim.Native.Nat.{_-_, _<_, _≤_};
+ghost use Prim.Native.Nat.{_<_, _≤_};
 ghost use Rattle.reversal.specs.Device.{tabled};
 ghost use Rattle.reversal.specs.Computed.Sets.{runsBack};
-ghost use Rattle.checker.specs.Judged.{Judgeable, firstWrong, sizeFrom};
-ghost use Rattle.checker.specs.Contract.{CheckAs};
+ghost use Rattle.book.specs.Book.{WellFormed};
+ghost use Rattle.checker.specs.Verdicts.{codeOf};
+ghost use Rattle.checker.specs.Contract.{Judged, CheckAs};
+
+// The verdict on an item.
+pub enum Verdict {
+    Accepted,
+    // Not a conditional reverse plan.
+    NoReversePlan,
+}
+
+// What the judgement of all items answers.
+pub enum Judgement {
+    AllAccepted,
+    // The first item that is not accepted: the place of its record, and the verdict on it.
+    Wrong(u64, Verdict),
+}
 
 // A reverse run: no command left and the goal alone in the set, or a next command that every state of the set can carry out, with the
 // rest run from the set after it.
@@ -25,52 +40,48 @@ fn runs_back(set: StateSet, table: &[u64], n: u64, m: u64, commands: &[u8], goal
     runs_back(next.set, table, n, m, &commands[1..], goal)
 }
 
-// The first of the items in the slots that is not accepted, or their number. For each start in psi, the ends in phi are run back
-// together; the search is left as soon as one item fails.
-fn first_wrong(table: &[u64], slots: &[u8], n: u64, m: u64, count: u64) -> u64
-    requires { ⌜ (n ≤ 64) × (m ≤ 32) × Judgeable (now slots) count ⌝ }
-    ensures { λ r. ⌜ r ≡ firstWrong (tabled n m (now (table .entry))) (now (slots .entry)) count ⌝ }
+// The first item that is not accepted, from the book's bytes. For each start in psi, the ends in phi are run back together; the search is
+// left as soon as one item fails.
+fn first_wrong(book: &[u8], table: &[u64], n: u64, m: u64) -> Judgement
+    requires { ⌜ (n ≤ 64) × (m ≤ 32) × WellFormed (now book) ⌝ }
+    ensures { λ r. ⌜ Judged (now (book .entry)) (tabled n m (now (table .entry))) r ⌝ }
 {
-    let mut wrong = count;
-    'items: for i in 0..count {
-        let at = (34 * i) as usize;
-        let k = num::byte_at(slots, at) as usize;
-        let r = num::byte_at(slots, at + 1) as usize;
-        let phi = num::u64_at(slots, at + 18);
-        let psi = num::u64_at(slots, at + 26);
+    let places = items::places_from(book, items::first_item(book));
+    let mut found = Judgement::AllAccepted;
+    'items: for i in 0..places.count {
+        let at = places.at[i] as usize;
+        let item = items::item_at(book, at);
         for start in 0..n {
-            if StateSet::of(psi).has(start) {
+            if StateSet::of(item.psi).has(start) {
                 let mut set = StateSet::of(0).add(start);
-                for j in 0..k {
-                    set = set.after(table, n, m, num::byte_at(slots, at + 2 + j));
+                for j in 0..item.k {
+                    set = set.after(table, n, m, num::byte_at(book, at + 6 + j));
                 }
-                set = set.within(phi);
+                set = set.within(item.phi);
                 if !set.is_empty() {
-                    if !runs_back(set, table, n, m, &slots[at + 10..at + 10 + r], start) {
-                        wrong = i;
+                    let reverse = at + 6 + item.k;
+                    if !runs_back(set, table, n, m, &book[reverse..reverse + item.r], start) {
+                        found = Judgement::Wrong(at as u64, Verdict::NoReversePlan);
                         break 'items;
                     }
                 }
             }
         }
     }
-    wrong
+    found
 }
 
-// The bytes that the records of the items from the first one on take.
-fn size_from(slots: &[u8], first: u64, count: u64) -> u64
-    requires { ⌜ count ≤ 64 ⌝ }
-    ensures { λ r. ⌜ r ≡ sizeFrom (now (slots .entry)) first (count - first) ⌝ }
+// 01's code for a verdict.
+fn code_of(verdict: Verdict) -> u64
+    ensures { λ r. ⌜ r ≡ codeOf verdict ⌝ }
 {
-    let mut size: u64 = 0;
-    for i in first..count {
-        let at = (34 * i) as usize;
-        size = size + 22 + num::byte_at(slots, at) + num::byte_at(slots, at + 1);
+    match verdict {
+        Verdict::Accepted => 0,
+        Verdict::NoReversePlan => 8,
     }
-    size
 }
 
-// Reads a book, and judges each of its items: code 8 at the place of the first wrong item's record.
+// Reads a book, and judges each of its items: the code of the first one that is not accepted, at the place of its record.
 pub fn check(book: &[u8], table: &mut [u64], slots: &mut [u8]) -> Reading
     ensures { λ r. ⌜ CheckAs (now (book .entry)) (now (table .entry)) (now (slots .entry)) r (now (table .exit)) (now (slots .exit)) ⌝ }
 {
@@ -78,16 +89,15 @@ pub fn check(book: &[u8], table: &mut [u64], slots: &mut [u8]) -> Reading
     if found.code != 0 {
         return found;
     }
-    let wrong = first_wrong(table, slots, found.n, found.m, found.items);
-    if wrong < found.items {
-        let size = size_from(slots, wrong, found.items);
-        return Reading {
-            code: 8,
-            place: book.len() as u64 - size,
+    let judged = first_wrong(book, table, found.n, found.m);
+    match judged {
+        Judgement::AllAccepted => found,
+        Judgement::Wrong(place, verdict) => Reading {
+            code: code_of(verdict),
+            place: place,
             n: 0,
             m: 0,
             items: 0,
-        };
+        },
     }
-    found
 }

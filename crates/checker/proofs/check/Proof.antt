@@ -1,12 +1,17 @@
 -- `check` meets its contract. Assumes nothing.
-use Rattle.checker.proofs.Answers.{passed-on, asked, no-wrong, room, one-wrong}
+use mathlib.Core.Path.{sym, ap, _∙_}
+use Prim.Native.Nat.{ℕ}
+use Rattle.reader.specs.Reads.{refusal}
+use Rattle.checker.specs.declared.Judgement.{Judgement}
+use Rattle.checker.specs.Contract.{onJudgement}
+use Rattle.checker.proofs.Answers.{passed-on, asked, judged}
 use borrow.Author.Needs.{needs}
 use Rattle.checker.proofs.check.Statement.{statement}
 use Rattle.checker.proofs.check.Tie as tie
 use Rattle.checker.proofs.check.Reads as reads
 use Rattle.checker.proofs.check.Lts as lts
+use Rattle.checker.proofs.code_of.Reads as code-of-reads
 use Rattle.checker.proofs.first_wrong.Reads as first-wrong-reads
-use Rattle.checker.proofs.size_from.Reads as size-from-reads
 use Rattle.reader.proofs.read.Reads as read-reads
 
 read-requires : tie.Need-read-requires
@@ -22,13 +27,16 @@ returns : tie.Need-returns
 returns c = passed-on (c .before .before .before .before .before .before .read .ensures) (c .if1 .taken)
 
 first-wrong-requires : tie.Need-first-wrong-requires
-first-wrong-requires c κs = asked (c .before .before .before .before .before .before .before .before .read .ensures) (c .before .before .if1 .left)
+first-wrong-requires c κs = asked (c .before .before .before .before .before .before .before .read .ensures) (c .before .if1 .left)
 
-size-from-requires : tie.Need-size-from-requires
-size-from-requires c κs = asked (c .before .before .before .before .before .before .before .before .before .before .before .before .read .ensures) (c .before .before .before .before .before .before .if1 .left) .2 .few
+enum-told : tie.Need-enum-told
+enum-told c = search needs
 
-sub-t20 : tie.Need-sub-t20
-sub-t20 c = room (c .before .before .before .before .before .before .before .before .before .before .before .before .before .read .ensures) (c .before .before .before .before .before .before .before .if1 .left) _ _ (c .before .before .if2 .taken) (c .size-from .ensures)
+enum-known-judged : tie.Need-enum-known-judged
+enum-known-judged c = search needs
+
+code-of-requires : tie.Need-code-of-requires
+code-of-requires c κs = search needs
 
 same-length-3 : tie.Need-same-length-3
 same-length-3 c = search needs
@@ -37,7 +45,9 @@ same-length-4 : tie.Need-same-length-4
 same-length-4 c = search needs
 
 returns-2 : tie.Need-returns-2
-returns-2 c = one-wrong (c .before .before .before .before .before .before .before .before .before .before .before .before .before .read .ensures) (c .before .before .before .before .before .before .before .if1 .left) _ _ (c .before .before .before .before .first-wrong .ensures) (c .before .before .if2 .taken) (c .size-from .ensures)
+returns-2 c =
+    judged (c .before .before .before .before .before .before .before .before .before .before .read .ensures) (c .before .before .before .before .if1 .left) _ (c .before .before .first-wrong .ensures) _
+    (sym (ap (λ (j : Judgement). onJudgement j refusal (c .before .before .before .before .before .before .before .before .before .before .read .result)) (c .enum-told .given .1)))
 
 same-length-5 : tie.Need-same-length-5
 same-length-5 c = search needs
@@ -46,7 +56,10 @@ same-length-6 : tie.Need-same-length-6
 same-length-6 c = search needs
 
 returns-3 : tie.Need-returns-3
-returns-3 c = no-wrong (c .before .before .before .before .before .before .before .before .before .before .before .read .ensures) (c .before .before .before .before .before .if1 .left) _ (c .before .before .first-wrong .ensures) (c .if2 .left)
+returns-3 c =
+    judged (c .before .before .before .before .before .before .before .before .before .before .before .before .read .ensures) (c .before .before .before .before .before .before .if1 .left) _ (c .before .before .before .before .first-wrong .ensures) _
+    (ap (λ (k : ℕ). refusal k (c .before .before .judged .given .0 .0)) (c .code-of .ensures)
+    ∙ sym (ap (λ (j : Judgement). onJudgement j refusal (c .before .before .before .before .before .before .before .before .before .before .before .before .read .result)) (c .before .before .judged .given .1)))
 
 pub check-spec : {M : Type 1} → statement M
 check-spec =
@@ -57,8 +70,9 @@ check-spec =
     same-length-2
     returns
     first-wrong-requires
-    size-from-requires
-    sub-t20
+    enum-told
+    enum-known-judged
+    code-of-requires
     same-length-3
     same-length-4
     returns-2

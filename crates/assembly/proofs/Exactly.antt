@@ -15,7 +15,7 @@ use Rattle.base.proofs.Picks as picks
 use Rattle.base.proofs.Lists.{each-at, stored}
 use Rattle.reversal.specs.Device.{Device}
 use Rattle.reversal.specs.Reversal.{Item, AllowedItem}
-use Rattle.reversal.specs.Runs.{Run, last}
+use Rattle.reversal.specs.Runs.{Run, AllowedRun, last}
 use Rattle.reversal.specs.Chains.{Leg, absent, item, lower, Chain, planOf, legsOf, cost}
 use Rattle.reversal.specs.Answers.{Allowed, Answer, Answers, no-history, no-chain, done}
 use Rattle.reversal.proofs.Assembling.{answer-right}
@@ -27,10 +27,11 @@ use Rattle.checker.specs.Checks.{Checked}
 use Rattle.checker.specs.Contract.{checkBy, CheckAs}
 use Rattle.checker.proofs.Exactly.{checks, filled}
 use Rattle.checker.proofs.Onward.{BookChecked, book-checked, checked-by, unchecked-by}
+use Rattle.runs.specs.RunBytes.{runBytes}
 use Rattle.runs.specs.Computed.{runOf, runFaulty}
 use Rattle.runs.proofs.Formed.{run-value, run-formed}
 use Rattle.assembly.specs.declared.Assembly.{Assembly}
-use Rattle.assembly.specs.Assembles.{refusal, resultOf, legsBytes, LegForm, inBytes, Room, Assembles, short, unaccepted, faulty, answered}
+use Rattle.assembly.specs.Assembles.{refusal, resultOf, legsBytes, LegForm, inBytes, Room, Untouched, Left, Assembles, short, unaccepted, faulty, answered}
 use Rattle.assembly.specs.Contract.{RoomShort, answerOf, plannedBy, roomBy, assembleBy, AssembleAs}
 use Rattle.assembly.proofs.Room.{either-short, room-enough}
 
@@ -70,24 +71,32 @@ module _ (d : Device) (items : List Item) (r : Run) (ok : Allowed d items r) whe
   answer-small a (no-chain h u n ns q e) = rw e (record { plan-small = omega arith; legs-small = omega arith; legs-counted = refl })
   answer-small a (done h u xs best ns q e) =
       let (p, l) = chain-most d r items (ok .each) xs (last r) (best .chain) in
-      rw e (record { plan-small = omega (arith, ok .run .short); legs-small = omega (arith, ok .run .short, length-legs items xs (last r)); legs-counted = length-legs items xs (last r) })
+      let counted = length-legs items xs (last r) in
+      rw e (record { plan-small = omega (arith, ok .run .short); legs-small = omega (arith, ok .run .short, counted); legs-counted = counted })
 
 pub held-small : {E : Type 0} (form : LegForm E) → Even form → (ls : List Leg) → length ls ≤ 32 → length (form .held ls) ≤ 32 * form .width
 held-small form even ls l = subst₂ (λ (x y : ℕ). x ≤ y) (sym (even ls)) (mul-comm (form .width) 32) (mul-le-mul-left (form .width) l)
 
--- what a call comes to: one refusal or one answer
-pub data Outcome {E : Type 0} (form : LegForm E) (book run t d plan : List ℕ) (legs : List E) : Type 1 where
-  refused : (code place : ℕ) → ((A : Type 0) (refuse : ℕ → ℕ → A) (fine : Answer → A) → assembleBy form book run t d plan legs refuse fine ≡ refuse code place) → Outcome form book run t d plan legs
-  given : (a : Answer) → Small a → ((A : Type 0) (refuse : ℕ → ℕ → A) (fine : Answer → A) → assembleBy form book run t d plan legs refuse fine ≡ fine a) → Outcome form book run t d plan legs
-
 -- ---- the call
+-- whatever is made of it, it comes to a refusal, or to an answer
+abbrev pub Refuses : {E : Type 0} → LegForm E → (book run t d plan : List ℕ) → List E → ℕ → ℕ → Type 1
+Refuses form book run t d plan legs code place =
+    (A : Type 0) (refuse : ℕ → ℕ → A) (fine : Answer → A) → assembleBy form book run t d plan legs refuse fine ≡ refuse code place
+
+abbrev pub Gives : {E : Type 0} → LegForm E → (book run t d plan : List ℕ) → List E → Answer → Type 1
+Gives form book run t d plan legs a = (A : Type 0) (refuse : ℕ → ℕ → A) (fine : Answer → A) → assembleBy form book run t d plan legs refuse fine ≡ fine a
+
+pub data Outcome {E : Type 0} (form : LegForm E) (book run t d plan : List ℕ) (legs : List E) : Type 1 where
+  refused : (code place : ℕ) → Refuses form book run t d plan legs code place → Outcome form book run t d plan legs
+  given : (a : Answer) → Small a → Gives form book run t d plan legs a → Outcome form book run t d plan legs
+
 module _ {E : Type 0} {form : LegForm E} (even : Even form) {book run t d plan : List ℕ} {legs : List E} {r : Assembly} {t′ d′ plan′ : List ℕ} {legs′ : List E}
     (c : AssembleAs form book run t d plan legs r t′ d′ plan′ legs′) where
   -- checking, as far as it went
-  module _ (room : Room form plan legs) where
-    abbrev f : Reading
-    f = checkBy book t d reads.refusal reads.done
+  abbrev f : Reading
+  f = checkBy book t d reads.refusal reads.done
 
+  module _ (room : Room form plan legs) where
     checked : CheckAs book t d f t′ d′
     checked =
         record {
@@ -97,22 +106,10 @@ module _ {E : Type 0} {form : LegForm E} (even : Even form) {book run t d plan :
           slots = c .slots-is ∙ sym (room-enough form plan legs _ _ room);
         }
 
-    result-is : r ≡ checkBy book t d refusal (plannedBy run refusal resultOf)
+    enough : {A : Type 0} (refuse : ℕ → ℕ → A) (fine : Answer → A)
+        → assembleBy form book run t d plan legs refuse fine ≡ checkBy book t d refuse (plannedBy run refuse fine)
     unfolding assembleBy
-    result-is = c .result ∙ sym (room-enough form plan legs _ _ room)
-
-    plan-is : plan′ ≡ checkBy book t d (λ code place. plan) (plannedBy run (λ code place. plan) (λ a. sets plan 0 (a .plan-bytes)))
-    unfolding assembleBy
-    plan-is = c .plan-is ∙ sym (room-enough form plan legs _ _ room)
-
-    legs-is : legs′ ≡ checkBy book t d (λ code place. legs) (plannedBy run (λ code place. legs) (λ a. sets legs 0 (form .held (a .plan-legs))))
-    unfolding assembleBy
-    legs-is = c .legs-is ∙ sym (room-enough form plan legs _ _ room)
-
-    not-accepted : (f .code ≡ 0 → ⊥) → Assembles form book run t d plan legs r t′ d′ plan′ legs′
-    not-accepted n =
-        unaccepted room (checks checked) n (result-is ∙ unchecked-by checked _ _ n)
-        (record { plan-same = plan-is ∙ unchecked-by checked _ _ n; legs-same = legs-is ∙ unchecked-by checked _ _ n })
+    enough refuse fine = sym (room-enough form plan legs _ _ room)
 
     module _ (z : f .code ≡ 0) where
       abbrev g : BookChecked book t d f t′ d′
@@ -125,89 +122,101 @@ module _ {E : Type 0} {form : LegForm E} (even : Even form) {book run t d plan :
       checked-is =
           record { filled = filled checked (g .long) b (g .accepted .allowed) (g .accepted .bytes) (g .parsed); accepted = g .accepted .accepted }
 
-      run-faulty : runFaulty (b .n) (b .m) run ≡ true → Assembles form book run t d plan legs r t′ d′ plan′ legs′
-      run-faulty e =
-          faulty room b checked-is (λ w. differ (sym e ∙ run-formed (deviceOf b) run (g .accepted .allowed .device .n-high) (c .run-bytes) .1 w))
-          (result-is ∙ checked-by checked _ _ g ∙ sym (picks.yes _ _ _ _ e refl))
-          (record {
-            plan-same = plan-is ∙ checked-by checked _ _ g ∙ sym (picks.yes _ _ _ _ e refl);
-            legs-same = legs-is ∙ checked-by checked _ _ g ∙ sym (picks.yes _ _ _ _ e refl);
-          })
-        where
-          differ : true ≡ false → ⊥
-          differ q = subst T q tt
+      planned : {A : Type 0} (refuse : ℕ → ℕ → A) (fine : Answer → A) → assembleBy form book run t d plan legs refuse fine ≡ plannedBy run refuse fine b
+      planned refuse fine = enough refuse fine ∙ checked-by checked _ _ g
 
-      run-answered : runFaulty (b .n) (b .m) run ≡ false → Assembles form book run t d plan legs r t′ d′ plan′ legs′
-      run-answered e =
-          let (allowed, bytes) = run-value (deviceOf b) run (c .run-bytes) e in
-          let ok : Allowed (deviceOf b) (b .items) (runOf run) = record { device = device-proper b (g .accepted .allowed); each = g .accepted .allowed .each-item; run = allowed } in
-          let right = answer-right (deviceOf b) (b .items) (runOf run) ok in
-          let small = answer-small (deviceOf b) (b .items) (runOf run) ok (answerOf b run) right in
-          answered room b checked-is (runOf run) allowed bytes (answerOf b run) right
-          (record {
-            result-is = result-is ∙ checked-by checked _ _ g ∙ sym (picks.no _ _ _ _ e refl);
-            plan-written = stored _ plan plan′ (omega (arith, room .0, small .plan-small)) (plan-is ∙ checked-by checked _ _ g ∙ sym (picks.no _ _ _ _ e refl));
-            legs-written =
-                stored _ legs legs′ (le-trans (held-small form even _ (small .legs-small)) (room .1))
-                (legs-is ∙ checked-by checked _ _ g ∙ sym (picks.no _ _ _ _ e refl));
-          })
+  -- the ways of a call, in their order: a short buffer; what checking refuses; a faulty run; an answer
+  data Way : Type 1 where
+    by-room : RoomShort form plan legs → Refuses form book run t d plan legs 1 0 → Way
+    by-check : Room form plan legs → (f .code ≡ 0 → ⊥) → Refuses form book run t d plan legs (f .code) (f .place) → Way
+    by-run : (room : Room form plan legs) (z : f .code ≡ 0) → runFaulty (b room z .n) (b room z .m) run ≡ true → Refuses form book run t d plan legs 9 0 → Way
+    by-answer : (room : Room form plan legs) (z : f .code ≡ 0) → runFaulty (b room z .n) (b room z .m) run ≡ false
+        → Gives form book run t d plan legs (answerOf (b room z) run) → Way
 
-      on-run : (y : Bool) → runFaulty (b .n) (b .m) run ≡ y → Assembles form book run t d plan legs r t′ d′ plan′ legs′
-      on-run true e = run-faulty e
-      on-run false e = run-answered e
+  too-short : RoomShort form plan legs → Way
+  unfolding assembleBy
+  too-short h = by-room h (λ A refuse fine. sym (either-short form plan legs (refuse 1 0) _ h))
 
-    on-code : Dec (0 < f .code) → Assembles form book run t d plan legs r t′ d′ plan′ legs′
-    on-code (yes h) = not-accepted (λ e. omega arith)
-    on-code (no h) = let z : f .code ≡ 0 = omega arith in on-run z (runFaulty (b z .n) (b z .m) run) refl
+  on-run : (room : Room form plan legs) (z : f .code ≡ 0) (y : Bool) → runFaulty (b room z .n) (b room z .m) run ≡ y → Way
+  on-run room z true e = by-run room z e (λ A refuse fine. planned room z refuse fine ∙ sym (picks.yes _ _ _ _ e refl))
+  on-run room z false e = by-answer room z e (λ A refuse fine. planned room z refuse fine ∙ sym (picks.no _ _ _ _ e refl))
 
-  -- a buffer is short
-  module _ (h : RoomShort form plan legs) where
-    e : (A : Type 0) (refuse fine : A) → refuse ≡ roomBy form plan legs refuse fine
-    e A refuse fine = either-short form plan legs refuse fine h
+  on-code : Room form plan legs → Dec (0 < f .code) → Way
+  on-code room (yes h) =
+      let n : f .code ≡ 0 → ⊥ = λ e. omega arith in
+      by-check room n (λ A refuse fine. enough room refuse fine ∙ unchecked-by (checked room) _ _ n)
+  on-code room (no h) = on-run room (omega arith) _ refl
 
-    no-room : Room form plan legs → ⊥
-    no-room l = ⊎-elim (λ (q : length plan < 256). omega (arith, l .0)) (λ (q : length legs < 32 * form .width). omega (arith, l .1)) h
-
-    too-short : Assembles form book run t d plan legs r t′ d′ plan′ legs′
-    unfolding assembleBy
-    too-short =
-        short no-room (c .result ∙ sym (e _ _ _)) (record { table-same = c .table-is ∙ sym (e _ _ _); slots-same = c .slots-is ∙ sym (e _ _ _) })
-        (record { plan-same = c .plan-is ∙ sym (e _ _ _); legs-same = c .legs-is ∙ sym (e _ _ _) })
-
-  pub assembles : Assembles form book run t d plan legs r t′ d′ plan′ legs′
-  assembles = go (decLt (length plan) 256) (decLt (length legs) (32 * form .width))
+  way : Way
+  way = go (decLt (length plan) 256) (decLt (length legs) (32 * form .width))
     where
-      go : Dec (length plan < 256) → Dec (length legs < 32 * form .width) → Assembles form book run t d plan legs r t′ d′ plan′ legs′
+      go : Dec (length plan < 256) → Dec (length legs < 32 * form .width) → Way
       go (yes h) y = too-short (inl h)
       go (no h) (yes k) = too-short (inr k)
-      go (no h) (no k) = let room : Room form plan legs = (omega arith, omega arith) in on-code room (decLt 0 (f room .code))
+      go (no h) (no k) = on-code (omega arith, omega arith) (decLt 0 (f .code))
 
-  -- ---- a call is one refusal or one answer, whatever is made of it
-  module _ (room : Room form plan legs) where
-    enough : {A : Type 0} (refuse : ℕ → ℕ → A) (fine : Answer → A) → assembleBy form book run t d plan legs refuse fine ≡ checkBy book t d refuse (plannedBy run refuse fine)
-    unfolding assembleBy
-    enough refuse fine = sym (room-enough form plan legs _ _ room)
+  -- an answer to an accepted book and a run that is fine
+  module _ (room : Room form plan legs) (z : f .code ≡ 0) (e : runFaulty (b room z .n) (b room z .m) run ≡ false) where
+    abbrev dev : Device
+    dev = deviceOf (b room z)
 
-    outcome-run : (z : f room .code ≡ 0) (y : Bool) → runFaulty (b room z .n) (b room z .m) run ≡ y → Outcome form book run t d plan legs
-    outcome-run z true e = refused 9 0 (λ A refuse fine. enough refuse fine ∙ checked-by (checked room) _ _ (g room z) ∙ sym (picks.yes _ _ _ _ e refl))
-    outcome-run z false e =
-        let allowed = run-value (deviceOf (b room z)) run (c .run-bytes) e .0 in
-        let ok : Allowed (deviceOf (b room z)) (b room z .items) (runOf run) = record { device = device-proper (b room z) (g room z .accepted .allowed); each = g room z .accepted .allowed .each-item; run = allowed } in
-        given (answerOf (b room z) run) (answer-small (deviceOf (b room z)) (b room z .items) (runOf run) ok _ (answer-right (deviceOf (b room z)) (b room z .items) (runOf run) ok))
-        (λ A refuse fine. enough refuse fine ∙ checked-by (checked room) _ _ (g room z) ∙ sym (picks.no _ _ _ _ e refl))
+    abbrev items : List Item
+    items = b room z .items
 
-    outcome-code : Dec (0 < f room .code) → Outcome form book run t d plan legs
-    outcome-code (yes h) = refused (f room .code) (f room .place) (λ A refuse fine. enough refuse fine ∙ unchecked-by (checked room) _ _ (λ e. omega arith))
-    outcome-code (no h) = let z : f room .code ≡ 0 = omega arith in outcome-run z _ refl
+    fine-run : AllowedRun dev (runOf run) × (runBytes (runOf run) ≡ run)
+    fine-run = run-value dev run (c .run-bytes) e
 
-  outcome-short : RoomShort form plan legs → Outcome form book run t d plan legs
-  unfolding assembleBy
-  outcome-short h = refused 1 0 (λ A refuse fine. sym (either-short form plan legs (refuse 1 0) _ h))
+    allowed : Allowed dev items (runOf run)
+    allowed =
+        let ok = g room z .accepted .allowed in
+        record { device = device-proper (b room z) ok; each = ok .each-item; run = fine-run .0 }
+
+    right : Answers dev items (runOf run) (answerOf (b room z) run)
+    right = answer-right dev items (runOf run) allowed
+
+    small : Small (answerOf (b room z) run)
+    small = answer-small dev items (runOf run) allowed (answerOf (b room z) run) right
 
   pub outcome : Outcome form book run t d plan legs
-  outcome = go (decLt (length plan) 256) (decLt (length legs) (32 * form .width))
+  outcome = go way
     where
-      go : Dec (length plan < 256) → Dec (length legs < 32 * form .width) → Outcome form book run t d plan legs
-      go (yes h) y = outcome-short (inl h)
-      go (no h) (yes k) = outcome-short (inr k)
-      go (no h) (no k) = let room : Room form plan legs = (omega arith, omega arith) in outcome-code room (decLt 0 (f room .code))
+      go : Way → Outcome form book run t d plan legs
+      go (by-room h q) = refused 1 0 q
+      go (by-check room n q) = refused (f .code) (f .place) q
+      go (by-run room z e q) = refused 9 0 q
+      go (by-answer room z e q) = given (answerOf (b room z) run) (small room z e) q
+
+  -- a refusal leaves plan and legs
+  untouched : {code place : ℕ} → Refuses form book run t d plan legs code place → Untouched plan legs plan′ legs′
+  untouched q = record { plan-same = c .plan-is ∙ q _ _ _; legs-same = c .legs-is ∙ q _ _ _ }
+
+  left : (a : Answer) → Small a → Room form plan legs → Gives form book run t d plan legs a → Left form a plan legs r plan′ legs′
+  left a s room q =
+      record {
+        result-is = c .result ∙ q _ _ _;
+        plan-written = stored _ plan plan′ (omega (arith, room .0, s .plan-small)) (c .plan-is ∙ q _ _ _);
+        legs-written = stored _ legs legs′ (le-trans (held-small form even _ (s .legs-small)) (room .1)) (c .legs-is ∙ q _ _ _);
+      }
+
+  no-room : RoomShort form plan legs → Room form plan legs → ⊥
+  no-room h l = ⊎-elim (λ (q : length plan < 256). omega (arith, l .0)) (λ (q : length legs < 32 * form .width). omega (arith, l .1)) h
+
+  pub assembles : Assembles form book run t d plan legs r t′ d′ plan′ legs′
+  assembles = go way
+    where
+      differ : true ≡ false → ⊥
+      differ q = subst T q tt
+
+      go : Way → Assembles form book run t d plan legs r t′ d′ plan′ legs′
+      go (by-room h q) =
+          let kept : (A : Type 0) (refuse fine : A) → roomBy form plan legs refuse fine ≡ refuse = λ A refuse fine. sym (either-short form plan legs refuse fine h) in
+          short (no-room h) (c .result ∙ q _ _ _) (record { table-same = c .table-is ∙ kept _ _ _; slots-same = c .slots-is ∙ kept _ _ _ }) (untouched q)
+      go (by-check room n q) = unaccepted room (checks (checked room)) n (c .result ∙ q _ _ _) (untouched q)
+      go (by-run room z e q) =
+          let high = g room z .accepted .allowed .device .n-high in
+          faulty room (b room z) (checked-is room z) (λ w. differ (sym e ∙ run-formed (deviceOf (b room z)) run high (c .run-bytes) .1 w))
+          (c .result ∙ q _ _ _) (untouched q)
+      go (by-answer room z e q) =
+          let (ok, bytes) = fine-run room z e in
+          answered room (b room z) (checked-is room z) (runOf run) ok bytes (answerOf (b room z) run) (right room z e)
+          (left (answerOf (b room z) run) (small room z e) room q)

@@ -5,7 +5,8 @@ use native.Mathlib.Omega.{arith}
 use borrow.Author.Needs.{needs}
 use lib.Bits.{bitAnd}
 use lib.ListN.{getD, replicate}
-use Rattle.reversal.specs.Device.{tabled}
+use Rattle.reversal.specs.Device.{Device, tabled}
+use Rattle.reversal.specs.Runs.{Run}
 use Rattle.states.specs.declared.StateSet.{StateSet}
 use Rattle.states.specs.StateSets.{afterIn, beforeIn}
 use Rattle.states.proofs.Laws.{after-limits, before-limits}
@@ -36,6 +37,28 @@ Inv-loop2 run table n m i sets₀ j₀ sets j = Backward (tabled n m table) (run
 abbrev μ-loop2 : tie.MeasureT-loop2
 μ-loop2 run table n m i sets₀ j₀ sets j = j
 
+-- ---- places: the call's start, the run's last point, and the head of each pass from the end of its turn
+abbrev start : tie.After-last-point Inv-loop μ-loop Inv-loop2 μ-loop2 → tie.Start Inv-loop μ-loop Inv-loop2 μ-loop2
+start c = c .before .before .before
+
+abbrev pointed : tie.At-loop Inv-loop μ-loop Inv-loop2 μ-loop2 → tie.After-last-point Inv-loop μ-loop Inv-loop2 μ-loop2
+pointed c = c .before .before
+
+abbrev pointed2 : tie.At-loop2 Inv-loop μ-loop Inv-loop2 μ-loop2 → tie.After-last-point Inv-loop μ-loop Inv-loop2 μ-loop2
+pointed2 c = pointed (c .before .before)
+
+abbrev head : tie.After-after Inv-loop μ-loop Inv-loop2 μ-loop2 → tie.At-loop Inv-loop μ-loop Inv-loop2 μ-loop2
+head c = c .before .before .before .before
+
+abbrev head2 : tie.After-command-at2 Inv-loop μ-loop Inv-loop2 μ-loop2 → tie.At-loop2 Inv-loop μ-loop Inv-loop2 μ-loop2
+head2 c = c .before .before .before
+
+abbrev device : tie.Start Inv-loop μ-loop Inv-loop2 μ-loop2 → Device
+device c = tabled (c .args .n) (c .args .m) (c .args .table .now)
+
+abbrev record-of : tie.Start Inv-loop μ-loop Inv-loop2 μ-loop2 → Run
+record-of c = runOf (c .args .run .now)
+
 last-point-requires : tie.Need-last-point-requires Inv-loop μ-loop Inv-loop2 μ-loop2
 last-point-requires c κs = search needs
 
@@ -47,15 +70,15 @@ array-write-sets c = search needs
 
 loop-holds : tie.Need-loop-holds Inv-loop μ-loop Inv-loop2 μ-loop2
 loop-holds c =
-    let a = c .before .before .before .before .args in
-    let last-point = c .before .last-point .ensures .0 in
-    forward-start (tabled (a .n) (a .m) (a .table .now)) (runOf (a .run .now)) _ (replicate 33 0) _ refl (omega (arith, c .before .before .before .before .pre .2)) (c .percept-at .ensures ∙ percept-is (a .run .now) 0 (omega arith))
+    let s = start (c .before) in
+    forward-start (device s) (record-of s) _ (replicate 33 0) _ refl (omega (arith, s .pre .2, c .before .last-point .ensures .0))
+    (c .percept-at .ensures ∙ percept-is (s .args .run .now) 0 (omega arith))
 
 mul-of : tie.Need-mul-of Inv-loop μ-loop Inv-loop2 μ-loop2
-mul-of c = omega (arith, c .before .loop .inv .size, c .before .loop .inv .few, c .before .loop .inv .low)
+mul-of c = omega (arith, c .before .loop .inv)
 
 array-read-of : tie.Need-array-read-of Inv-loop μ-loop Inv-loop2 μ-loop2
-array-read-of c = omega (arith, c .before .loop .inv .size, c .before .loop .inv .few, c .before .loop .inv .low)
+array-read-of c = omega (arith, c .before .loop .inv)
 
 of-requires : tie.Need-of-requires Inv-loop μ-loop Inv-loop2 μ-loop2
 of-requires c κs = search needs
@@ -67,7 +90,7 @@ after-requires : tie.Need-after-requires Inv-loop μ-loop Inv-loop2 μ-loop2
 after-requires c κs = search needs
 
 add-percept-at : tie.Need-add-percept-at Inv-loop μ-loop Inv-loop2 μ-loop2
-add-percept-at c = omega (arith, c .before .before .before .before .loop .inv .size, c .before .before .before .before .loop .inv .few, c .before .before .before .before .loop .inv .low)
+add-percept-at c = omega (arith, c .before .before .before .before .loop .inv)
 
 percept-at-requires-2 : tie.Need-percept-at-requires-2 Inv-loop μ-loop Inv-loop2 μ-loop2
 percept-at-requires-2 c κs = search needs
@@ -76,45 +99,50 @@ within-requires : tie.Need-within-requires Inv-loop μ-loop Inv-loop2 μ-loop2
 within-requires c κs = search needs
 
 add-sets : tie.Need-add-sets Inv-loop μ-loop Inv-loop2 μ-loop2
-add-sets c = omega (arith, c .before .before .before .before .before .before .loop .inv .size, c .before .before .before .before .before .before .loop .inv .few, c .before .before .before .before .before .before .loop .inv .low)
+add-sets c = omega (arith, c .before .before .before .before .before .before .loop .inv)
 
 mul-sets : tie.Need-mul-sets Inv-loop μ-loop Inv-loop2 μ-loop2
-mul-sets c = omega (arith, c .before .before .before .before .before .before .loop .inv .size, c .before .before .before .before .before .before .loop .inv .few, c .before .before .before .before .before .before .loop .inv .low)
+mul-sets c = omega (arith, c .before .before .before .before .before .before .loop .inv)
 
 array-write-sets-2 : tie.Need-array-write-sets-2 Inv-loop μ-loop Inv-loop2 μ-loop2
-array-write-sets-2 c = omega (arith, c .before .before .before .before .before .before .loop .inv .size, c .before .before .before .before .before .before .loop .inv .few, c .before .before .before .before .before .before .loop .inv .low)
+array-write-sets-2 c = omega (arith, c .before .before .before .before .before .before .loop .inv)
 
 add-j : tie.Need-add-j Inv-loop μ-loop Inv-loop2 μ-loop2
-add-j c = omega (arith, c .before .before .before .before .before .before .loop .inv .size, c .before .before .before .before .before .before .loop .inv .few, c .before .before .before .before .before .before .loop .inv .low)
+add-j c = omega (arith, c .before .before .before .before .before .before .loop .inv)
 
 loop-less : tie.Need-loop-less Inv-loop μ-loop Inv-loop2 μ-loop2
-loop-less c = omega (arith, c .before .before .before .before .before .before .loop .inv .size, c .before .before .before .before .before .before .loop .inv .few, c .before .before .before .before .before .before .loop .inv .low)
+loop-less c = omega (arith, c .before .before .before .before .before .before .loop .inv)
 
 loop-again : tie.Need-loop-again Inv-loop μ-loop Inv-loop2 μ-loop2
 loop-again c =
-    let a = c .before .before .before .before .before .before .before .before .before .before .before .args in
-    let last-point = c .before .before .before .before .before .before .before .before .last-point .ensures .0 in
-    let j = c .before .before .before .before .before .before .loop .j in
-    forward-next (tabled (a .n) (a .m) (a .table .now)) (runOf (a .run .now)) _ (c .before .before .before .before .before .before .loop .inv) _ _ _ (omega arith)
-    (c .before .before .before .command-at .ensures ∙ command-is (a .run .now) j (omega (arith, last-point)))
-    (c .before .percept-at2 .ensures ∙ percept-is (a .run .now) (j + 1) (omega (arith, last-point)))
-    (ap (λ (x : StateSet). x .mask) (c .within .ensures)
-    ∙ ap (λ (x : StateSet). bitAnd (x .mask) (c .before .percept-at2 .result)) (c .before .before .after .ensures)
-    ∙ ap (λ (x : ℕ). bitAnd x (c .before .percept-at2 .result))
-    (ap (λ (x : StateSet). afterIn (a .n) (a .m) (a .table .now) (c .before .before .before .command-at .result) (x .mask)) (c .before .before .before .before .of .ensures)
-    ∙ after-limits (a .n) (a .m) (a .table .now) (c .before .before .before .command-at .result) _ (c .before .before .before .before .before .before .before .before .before .before .before .pre .0) (c .before .before .before .before .before .before .before .before .before .before .before .pre .1)))
+    let t = c .before .before in
+    let l = head t in
+    let s = start (pointed l) in
+    let a = s .args in
+    let last-point = pointed l .last-point .ensures .0 in
+    let sent = t .before .command-at .result in
+    let seen = c .before .percept-at2 .result in
+    forward-next (device s) (record-of s) _ (l .loop .inv) _ _ _ (omega arith)
+    (t .before .command-at .ensures ∙ command-is (a .run .now) (l .loop .j) (omega (arith, last-point)))
+    (c .before .percept-at2 .ensures ∙ percept-is (a .run .now) (l .loop .j + 1) (omega (arith, last-point)))
+    (ap (λ (x : StateSet). x .mask) (c .within .ensures) ∙ ap (λ (x : StateSet). bitAnd (x .mask) seen) (t .after .ensures)
+    ∙ ap (λ (x : ℕ). bitAnd x seen)
+    (ap (λ (x : StateSet). afterIn (a .n) (a .m) (a .table .now) sent (x .mask)) (t .before .before .of .ensures)
+    ∙ after-limits (a .n) (a .m) (a .table .now) sent _ (s .pre .0) (s .pre .1)))
 
 loop2-holds : tie.Need-loop2-holds Inv-loop μ-loop Inv-loop2 μ-loop2
-loop2-holds c = backward-start (tabled (c .before .before .before .before .before .before .args .n) (c .before .before .before .before .before .before .args .m) (c .before .before .before .before .before .before .args .table .now)) (runOf (c .before .before .before .before .before .before .args .run .now)) _ (c .before .loop .inv) (omega (arith, c .before .loop .inv .low))
+loop2-holds c =
+    let s = start (pointed (c .before)) in
+    backward-start (device s) (record-of s) _ (c .before .loop .inv) (omega (arith, c .before .loop .inv))
 
 sub-j : tie.Need-sub-j Inv-loop μ-loop Inv-loop2 μ-loop2
 sub-j c = omega arith
 
 mul-of-2 : tie.Need-mul-of-2 Inv-loop μ-loop Inv-loop2 μ-loop2
-mul-of-2 c = omega (arith, c .before .loop2 .inv .size, c .before .loop2 .inv .few, c .before .loop2 .inv .low)
+mul-of-2 c = omega (arith, c .before .loop2 .inv)
 
 array-read-of-2 : tie.Need-array-read-of-2 Inv-loop μ-loop Inv-loop2 μ-loop2
-array-read-of-2 c = omega (arith, c .before .loop2 .inv .size, c .before .loop2 .inv .few, c .before .loop2 .inv .low)
+array-read-of-2 c = omega (arith, c .before .loop2 .inv)
 
 of-requires-2 : tie.Need-of-requires-2 Inv-loop μ-loop Inv-loop2 μ-loop2
 of-requires-2 c κs = search needs
@@ -123,42 +151,45 @@ command-at-requires-2 : tie.Need-command-at-requires-2 Inv-loop μ-loop Inv-loop
 command-at-requires-2 c κs = search needs
 
 add-before : tie.Need-add-before Inv-loop μ-loop Inv-loop2 μ-loop2
-add-before c = omega (arith, c .before .before .before .loop2 .inv .size, c .before .before .before .loop2 .inv .few, c .before .before .before .loop2 .inv .low)
+add-before c = omega (arith, c .before .before .before .loop2 .inv)
 
 mul-before : tie.Need-mul-before Inv-loop μ-loop Inv-loop2 μ-loop2
-mul-before c = omega (arith, c .before .before .before .loop2 .inv .size, c .before .before .before .loop2 .inv .few, c .before .before .before .loop2 .inv .low)
+mul-before c = omega (arith, c .before .before .before .loop2 .inv)
 
 array-read-before : tie.Need-array-read-before Inv-loop μ-loop Inv-loop2 μ-loop2
-array-read-before c = omega (arith, c .before .before .before .loop2 .inv .size, c .before .before .before .loop2 .inv .few, c .before .before .before .loop2 .inv .low)
+array-read-before c = omega (arith, c .before .before .before .loop2 .inv)
 
 before-requires : tie.Need-before-requires Inv-loop μ-loop Inv-loop2 μ-loop2
 before-requires c κs = search needs
 
 mul-sets-2 : tie.Need-mul-sets-2 Inv-loop μ-loop Inv-loop2 μ-loop2
-mul-sets-2 c = omega (arith, c .before .before .before .before .loop2 .inv .size, c .before .before .before .before .loop2 .inv .few, c .before .before .before .before .loop2 .inv .low)
+mul-sets-2 c = omega (arith, c .before .before .before .before .loop2 .inv)
 
 array-write-sets-3 : tie.Need-array-write-sets-3 Inv-loop μ-loop Inv-loop2 μ-loop2
-array-write-sets-3 c = omega (arith, c .before .before .before .before .loop2 .inv .size, c .before .before .before .before .loop2 .inv .few, c .before .before .before .before .loop2 .inv .low)
+array-write-sets-3 c = omega (arith, c .before .before .before .before .loop2 .inv)
 
 loop2-less : tie.Need-loop2-less Inv-loop μ-loop Inv-loop2 μ-loop2
 loop2-less c = omega arith
 
 loop2-again : tie.Need-loop2-again Inv-loop μ-loop Inv-loop2 μ-loop2
 loop2-again c =
-    let a = c .before .before .before .before .before .before .before .before .before .before .before .args in
-    let last-point = c .before .before .before .before .before .before .before .before .last-point .ensures .0 in
-    let j = c .before .before .before .before .loop2 .j in
-    backward-next (tabled (a .n) (a .m) (a .table .now)) (runOf (a .run .now)) _ (c .before .before .before .before .loop2 .inv) _ _ (omega arith)
-    (c .before .command-at2 .ensures ∙ command-is (a .run .now) (j - 1) (omega (arith, last-point, c .before .before .before .before .loop2 .inv .low)))
+    let t = c .before in
+    let l = head2 t in
+    let s = start (pointed2 l) in
+    let a = s .args in
+    let last-point = pointed2 l .last-point .ensures .0 in
+    let sent = t .command-at2 .result in
+    backward-next (device s) (record-of s) _ (l .loop2 .inv) _ _ (omega arith)
+    (t .command-at2 .ensures ∙ command-is (a .run .now) (l .loop2 .j - 1) (omega (arith, last-point, l .loop2 .inv)))
     (ap (λ (x : StateSet). x .mask) (c .before2 .ensures)
-    ∙ ap (λ (x : StateSet). beforeIn (a .n) (a .m) (a .table .now) (c .before .command-at2 .result) (x .mask) (getD (c .before .before .before .before .loop2 .sets) (j - 1 + 1) 0)) (c .before .before .of2 .ensures)
-    ∙ before-limits (a .n) (a .m) (a .table .now) (c .before .command-at2 .result) _ _ (c .before .before .before .before .before .before .before .before .before .before .before .pre .0) (c .before .before .before .before .before .before .before .before .before .before .before .pre .1))
+    ∙ ap (λ (x : StateSet). beforeIn (a .n) (a .m) (a .table .now) sent (x .mask) (getD (l .loop2 .sets) (l .loop2 .j - 1 + 1) 0)) (t .before .of2 .ensures)
+    ∙ before-limits (a .n) (a .m) (a .table .now) sent _ _ (s .pre .0) (s .pre .1))
 
 returns : tie.Need-returns Inv-loop μ-loop Inv-loop2 μ-loop2
 returns c =
-    let a = c .before .before .before .before .before .before .before .before .args in
-    let last-point = c .before .before .before .before .before .last-point .ensures .0 in
-    backward-done (tabled (a .n) (a .m) (a .table .now)) (runOf (a .run .now)) _ (c .before .loop2 .inv) (omega arith) (last-point ∙ last-is (a .run .now))
+    let s = start (pointed2 (c .before)) in
+    let last-point = pointed2 (c .before) .last-point .ensures .0 in
+    backward-done (device s) (record-of s) _ (c .before .loop2 .inv) (omega arith) (last-point ∙ last-is (s .args .run .now))
 
 pub beliefs-spec : {M : Type 1} → statement M
 beliefs-spec =

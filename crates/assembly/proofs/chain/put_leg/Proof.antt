@@ -27,9 +27,12 @@ same-length c = search needs
 
 returns : tie.Need-returns
 returns c =
-    let a = c .before .before .before .before .before .before .before .before .before .before .before .before .before .args in
-    let p = c .before .before .before .before .before .before .before .before .before .before .before .before .before .pre in
-    leg-stored (a .legs .now) (a .at) (a .number) (a .upper) (a .lower) (p .1) (p .2) (p .3) (c .before .before .before .before .before .before .before .before .before .before .put-le .ensures) (c .before .before .before .before .before .before .put-le2 .ensures) (c .before .before .put-le3 .ensures)
+    let third = c .before .before in
+    let second = third .before .before .before .before in
+    let first = second .before .before .before .before in
+    let s = first .before .before .before in
+    leg-stored (s .args .legs .now) (s .args .at) (s .args .number) (s .args .upper) (s .args .lower) (s .pre .1) (s .pre .2) (s .pre .3)
+    (first .put-le .ensures) (second .put-le2 .ensures) (third .put-le3 .ensures)
 
 pub put-leg-spec : {M : Type 1} → statement M
 put-leg-spec =

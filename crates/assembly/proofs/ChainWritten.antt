@@ -10,7 +10,6 @@ use Rattle.num.proofs.Le.{byte-one}
 use Rattle.num.proofs.Put.{sets-append}
 use Rattle.assembly.specs.Fields.{Fields}
 use Rattle.assembly.specs.ChainFollowed.{followed, Steps, planIn, legBytes, legsIn, walk, Walkable, Walked}
-use Rattle.assembly.specs.declared.chain.Counts.{Counts}
 
 -- ---- a leg in three stores
 pub leg-stored : (l : List ℕ) (at a u v : ℕ) {d e f : List ℕ} → a < 256 → u < 256 → v < 256 → d ≡ sets l at (bytesLe 1 a)

@@ -2,7 +2,7 @@
 use mathlib.Core.Path.{_≡_, sym, ap, _∙_, subst}
 use mathlib.Core.Logic.{_⊎_, inl, inr}
 use mathlib.Core.List.{List}
-use Prim.Native.Nat.{ℕ, _*_, _≤_}
+use Prim.Native.Nat.{ℕ, _*_}
 use native.Mathlib.Omega.{arith}
 use lib.ListN.{length, take}
 use Rattle.base.specs.Lists.{Bytes}
@@ -11,11 +11,10 @@ use Rattle.reversal.specs.Chains.{Best, Chain, planOf, legsOf, Undoes}
 use Rattle.reversal.specs.Answers.{Answer, assembled, Answers, no-history, no-chain, done, Numbers}
 use Rattle.reversal.proofs.EndToEnd.{chain-undoes}
 use Rattle.book.specs.Book.{Book, deviceOf}
-use Rattle.checker.specs.Checks.{Checked, AllAccepted}
+use Rattle.checker.specs.Checks.{AllAccepted}
 use Rattle.checker.proofs.Unique.{accepted-book, check-codes, not-eleven}
-use Rattle.runs.specs.RunBytes.{runBytes}
 use Rattle.assembly.specs.declared.Assembly.{Assembly}
-use Rattle.assembly.specs.Assembles.{refusal, resultOf, LegForm, Left, Assembles, short, unaccepted, faulty, answered}
+use Rattle.assembly.specs.Assembles.{LegForm, Left, Assembles, short, unaccepted, faulty, answered}
 use Rattle.assembly.specs.Demand.{Given, Ready, Planned, Demand}
 use Rattle.assembly.proofs.Exactly.{Even, length-legs}
 use Rattle.assembly.proofs.Unique.{given-answer}

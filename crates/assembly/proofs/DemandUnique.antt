@@ -7,9 +7,8 @@ use Prim.Native.Nat.{ℕ, _*_}
 use native.Mathlib.Omega.{arith}
 use lib.ListN.{length, take}
 use Rattle.reversal.specs.Runs.{Run, AllowedRun, last}
-use Rattle.reversal.specs.Chains.{planOf, legsOf, cost, Best, Chain}
+use Rattle.reversal.specs.Chains.{planOf, legsOf, cost, Best}
 use Rattle.reversal.specs.Answers.{Allowed, Answer, Answers, no-history, no-chain, done, Numbers}
-use Rattle.reversal.specs.Computed.Assembly.{answer}
 use Rattle.reversal.proofs.Assembling.{answer-right, best-unique, numbers-unique}
 use Rattle.book.specs.Book.{Book, deviceOf}
 use Rattle.book.proofs.Device.{device-proper}

@@ -9,7 +9,6 @@ use native.Mathlib.Nat.{le-trans, mul-comm, mul-le-mul-left}
 use native.Mathlib.Omega.{arith}
 use lib.Dec.{T}
 use lib.ListN.{length, length-append}
-use lib.Seq.{sets}
 use Rattle.base.specs.Lists.{Each}
 use Rattle.base.proofs.Picks as picks
 use Rattle.base.proofs.Lists.{each-at, stored}
@@ -31,7 +30,7 @@ use Rattle.runs.specs.RunBytes.{runBytes}
 use Rattle.runs.specs.Computed.{runOf, runFaulty}
 use Rattle.runs.proofs.Formed.{run-value, run-formed}
 use Rattle.assembly.specs.declared.Assembly.{Assembly}
-use Rattle.assembly.specs.Assembles.{refusal, resultOf, legsBytes, LegForm, inBytes, Room, Untouched, Left, Assembles, short, unaccepted, faulty, answered}
+use Rattle.assembly.specs.Assembles.{refusal, legsBytes, LegForm, inBytes, Room, Untouched, Left, Assembles, short, unaccepted, faulty, answered}
 use Rattle.assembly.specs.Contract.{RoomShort, answerOf, plannedBy, roomBy, assembleBy, AssembleAs}
 use Rattle.assembly.proofs.Room.{either-short, room-enough}
 

@@ -8,7 +8,7 @@ use lib.ListN.{length, getD}
 use Rattle.base.specs.Lists.{Each}
 use Rattle.base.specs.Bounded.{seek}
 use Rattle.reversal.specs.Reversal.{Item}
-use Rattle.reversal.specs.Chains.{item, lower, planOf, legsOf}
+use Rattle.reversal.specs.Chains.{lower, planOf, legsOf}
 use Rattle.reversal.specs.Computed.Least.{Rule, Linked, total, leastAt, begins, chosen}
 use Rattle.reversal.proofs.Shortest.{chosen-linked, least-chain}
 use Rattle.assembly.specs.Fields.{Fields, FieldsOf}

@@ -1,12 +1,11 @@
 -- Rules that agree at the points 0 to i have the same numbers and the same first items there. Assumes nothing.
-use mathlib.Core.Path.{_≡_, refl, sym, ap, ap₂, _∙_, subst}
-use mathlib.Core.Bool.{Bool}
+use mathlib.Core.Path.{_≡_, refl, ap, ap₂, _∙_}
 use mathlib.Core.List.{List, [], _∷_, _++_}
 use Prim.Native.Nat.{ℕ, zero, suc, _+_, _-_, _≤_, _<_}
 use native.Mathlib.Omega.{arith}
 use lib.Dec.{eqb}
 use lib.ListN.{getD, replicate}
-use Rattle.base.specs.Tests.{pick, both}
+use Rattle.base.specs.Tests.{both}
 use Rattle.base.specs.Bounded.{least, seek}
 use Rattle.base.proofs.Bounded.{least-same, seek-same}
 use Rattle.reversal.specs.Computed.Least.{Rule, via, leasts, leastAt, begins}

@@ -1,18 +1,25 @@
--- A book that was read into the slots: its items' fields are in them. Assumes nothing.
+-- The fields in the slots: those of the items of a book that was read into them. Assumes nothing.
 use mathlib.Core.Path.{_≡_, refl, sym, ap, _∙_}
 use mathlib.Core.List.{List}
 use Prim.Native.Nat.{ℕ, _+_, _-_, _*_, _≤_, _<_}
 use native.Mathlib.Omega.{arith}
 use lib.ListN.{length, getD, take, drop}
+use lib.Seq.{sets}
 use Rattle.num.specs.Parts.{piece}
-use Rattle.num.proofs.Put.{piece-take}
+use Rattle.num.proofs.Put.{length-piece, piece-take}
 use Rattle.reversal.specs.Reversal.{Item}
 use Rattle.reversal.specs.Chains.{item}
 use Rattle.book.specs.Book.{Book, AllowedBook}
 use Rattle.book.specs.Buffers.{slotsOf}
 use Rattle.checker.proofs.Found as found
 use Rattle.checker.proofs.Slots as slots
-use Rattle.assembly.specs.Fields.{FieldsOf, inSlots}
+use Rattle.assembly.specs.Fields.{FieldsOf, reverseAt, inSlots}
+
+-- copying as many reverse commands as there are
+pub reverse-stored : (slots plan : List ℕ) (a at n : ℕ) {plan′ : List ℕ} → n ≡ length (reverseAt slots a)
+    → plan′ ≡ sets plan at (piece n slots (34 * a + 10)) → plan′ ≡ sets plan at (reverseAt slots a)
+reverse-stored slots plan a at n e p =
+    p ∙ ap (λ (x : ℕ). sets plan at (piece x slots (34 * a + 10))) (e ∙ length-piece (getD slots (34 * a + 1) 0) slots (34 * a + 10))
 
 module _ (b : Book) (ok : AllowedBook b) (old : List ℕ) (long : 2176 ≤ length old) where
   abbrev S : List ℕ

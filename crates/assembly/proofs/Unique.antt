@@ -14,10 +14,9 @@ use Rattle.reader.specs.Reads.{Long}
 use Rattle.reader.proofs.Unique.{same-filled}
 use Rattle.checker.specs.Checks.{Checked, Checks}
 use Rattle.checker.proofs.Unique.{accepted-book, checks-unique, checked-fine}
-use Rattle.runs.specs.RunBytes.{runBytes}
 use Rattle.runs.proofs.Formed.{one-run}
 use Rattle.assembly.specs.declared.Assembly.{Assembly}
-use Rattle.assembly.specs.Assembles.{LegForm, Room, resultOf, refusal, Left, Assembles, short, unaccepted, faulty, answered}
+use Rattle.assembly.specs.Assembles.{LegForm, Room, refusal, Left, Assembles, short, unaccepted, faulty, answered}
 use Rattle.assembly.specs.Demand.{Given}
 
 not-accepted : {book table slots : List ℕ} {c : Reading} {t s : List ℕ} {b : Book} {t′ s′ : List ℕ} → Bytes book

@@ -1,6 +1,6 @@
 -- The ways through assembling, over checking's contract. Assumes nothing.
 use mathlib.Core.Path.{_≡_, refl, sym, ap, ap₂, _∙_, subst, subst₂}
-use mathlib.Core.Bool.{Bool, true, false, not}
+use mathlib.Core.Bool.{true, false}
 use mathlib.Core.List.{List}
 use Prim.Native.Nat.{ℕ, _≤_, _<_}
 use native.Mathlib.Omega.{arith}
@@ -117,80 +117,101 @@ module _ {book run t d plan legs : List ℕ} {f : Reading} {t′ d′ : List ℕ
         ap (λ (x : Reading). tabled (x .n) (x .m) t′) (g .result) ∙ ap (tabled (b .n) (b .m)) (g .table)
         ∙ tabled-device b t (g .accepted .allowed) (g .long .0)
 
-    -- ---- the run
-    twice : (v : Bool) → not (not v) ≡ v
-    twice true = refl
-    twice false = refl
+    faulty-is : runFaulty (b .n) (b .m) run ≡ runFaulty (f .n) (f .m) run
+    faulty-is = ap₂ (λ (n m : ℕ). runFaulty n m run) (sym n-is) (sym m-is)
 
-    faulty-is : {x : Bool} → x ≡ not (runFaulty (f .n) (f .m) run) → {y : Bool} → not x ≡ y → runFaulty (b .n) (b .m) run ≡ y
-    faulty-is {x} e q =
-        ap₂ (λ (n m : ℕ). runFaulty n m run) (sym n-is) (sym m-is) ∙ sym (twice (runFaulty (f .n) (f .m) run)) ∙ ap not (sym e) ∙ q
-
-    pub run-refused : {x : Bool} → x ≡ not (runFaulty (f .n) (f .m) run) → not x ≡ true → {r : Assembly} → r ≡ refusal 9 0
-        → AssembleAs inBytes book run t d plan legs r t′ d′ plan legs
-    run-refused e q p =
-        let y = faulty-is e q in
+    pub run-refused : runFaulty (f .n) (f .m) run ≡ true → {r : Assembly} → r ≡ refusal 9 0 → AssembleAs inBytes book run t d plan legs r t′ d′ plan legs
+    run-refused e p =
+        let y = faulty-is ∙ e in
         after-check (picks.yes _ _ _ _ y p ∙ sym (checked-by c _ _ g)) (picks.yes _ _ _ _ y refl ∙ sym (checked-by c _ _ g))
         (picks.yes _ _ _ _ y refl ∙ sym (checked-by c _ _ g))
 
-    module _ {x : Bool} (e : x ≡ not (runFaulty (f .n) (f .m) run)) (q : not x ≡ false) where
-      fine : runFaulty (b .n) (b .m) run ≡ false
-      fine = faulty-is e q
+-- ---- the book is accepted and the run is fine
+pub record FineRun (book run t d plan legs : List ℕ) (f : Reading) (t′ d′ : List ℕ) : Type 0 where
+  pub entered : Entered book run t d plan legs f t′ d′
+  pub accepted : f .code ≡ 0
+  pub fine : runFaulty (f .n) (f .m) run ≡ false
 
-      run-ok : AllowedRun (deviceOf b) (runOf run)
-      run-ok = run-value (deviceOf b) run (h .run-bytes) fine .0
+module _ {book run t d plan legs : List ℕ} {f : Reading} {t′ d′ : List ℕ} (w : FineRun book run t d plan legs f t′ d′) where
+  abbrev h : Entered book run t d plan legs f t′ d′
+  h = w .entered
 
-      allowed : Allowed (deviceOf b) (b .items) (runOf run)
-      allowed = record { device = device-proper b (g .accepted .allowed); each = g .accepted .allowed .each-item; run = run-ok }
+  abbrev z : f .code ≡ 0
+  z = w .accepted
 
-      pub low : lastOf run ≤ 32
-      low = omega (arith, last-is run, run-ok .short)
+  abbrev B : Book
+  B = b h z
 
-      -- with the answer stored
-      module _ {r : Assembly} {plan′ legs′ : List ℕ} (s : Stored (answerOf b run) plan legs r plan′ legs′) where
-        planned : {A : Type 0} (refuse : ℕ → ℕ → A) (done : Answer → A) → done (answerOf b run) ≡ checkBy book t d refuse (plannedBy run refuse done)
-        planned refuse done =
-            picks.no (done (answerOf b run)) (refuse 9 0) (done (answerOf b run)) (runFaulty (b .n) (b .m) run) fine refl
-            ∙ sym (checked-by c _ _ g)
+  fine : runFaulty (B .n) (B .m) run ≡ false
+  fine = faulty-is h z ∙ w .fine
 
-        answered : AssembleAs inBytes book run t d plan legs r t′ d′ plan′ legs′
-        answered =
-            after-check (s .result-is ∙ planned refusal resultOf) (s .plan-is ∙ planned (λ code place. plan) (λ a. sets plan 0 (a .plan-bytes)))
-            (s .legs-is ∙ planned (λ code place. legs) (λ a. sets legs 0 (legsBytes (a .plan-legs))))
+  run-ok : AllowedRun (deviceOf B) (runOf run)
+  run-ok = run-value (deviceOf B) run (h .run-bytes) fine .0
 
-      module _ {beliefs : List ℕ} (believed : Believed (tabled (f .n) (f .m) t′) (runOf run) beliefs) where
-        held : Believed (deviceOf b) (runOf run) beliefs
-        held = subst (λ (v : Device). Believed v (runOf run) beliefs) device-is believed
+  allowed : Allowed (deviceOf B) (B .items) (runOf run)
+  allowed = let ok = g h z .accepted .allowed in record { device = device-proper B ok; each = ok .each-item; run = run-ok }
 
-        pub no-state : getD beliefs 0 0 ≡ 0 → {r : Assembly} → r ≡ refusal 10 0 → AssembleAs inBytes book run t d plan legs r t′ d′ plan legs
-        no-state s p = answered (reached.no-state (deviceOf b) (b .items) run allowed (inSlots d′) fields beliefs held plan legs s p)
+  pub low : lastOf run ≤ 32
+  low = omega (arith, last-is run, run-ok .short)
 
-        module _ (some : getD beliefs 0 0 ≡ 0 → ⊥) {i : ℕ} (last-point : i ≡ lastOf run) {fewest firsts : List ℕ}
-            (num : Numbered (ruleOf (inSlots d′) run beliefs (f .items)) i fewest firsts) where
-          i-is : i ≡ last (runOf run)
-          i-is = last-point ∙ last-is run
+  -- with the answer stored
+  module _ {r : Assembly} {plan′ legs′ : List ℕ} (s : Stored (answerOf B run) plan legs r plan′ legs′) where
+    planned : {A : Type 0} (refuse : ℕ → ℕ → A) (done : Answer → A) → done (answerOf B run) ≡ checkBy book t d refuse (plannedBy run refuse done)
+    planned refuse done =
+        picks.no (done (answerOf B run)) (refuse 9 0) (done (answerOf B run)) (runFaulty (B .n) (B .m) run) fine refl
+        ∙ sym (checked-by (c h) _ _ (g h z))
 
-          num′ : Numbered (ruleOf (inSlots d′) run beliefs (length (b .items))) (last (runOf run)) fewest firsts
-          num′ = subst₂ (λ (k j : ℕ). Numbered (ruleOf (inSlots d′) run beliefs k) j fewest firsts) items-is i-is num
+    answered : AssembleAs inBytes book run t d plan legs r t′ d′ plan′ legs′
+    answered =
+        after-check h (s .result-is ∙ planned refusal resultOf) (s .plan-is ∙ planned (λ code place. plan) (λ a. sets plan 0 (a .plan-bytes)))
+        (s .legs-is ∙ planned (λ code place. legs) (λ a. sets legs 0 (legsBytes (a .plan-legs))))
 
-          number-is : getD fewest i 0 ≡ getD fewest (last (runOf run)) 0
-          number-is = ap (λ (j : ℕ). getD fewest j 0) i-is
+  module _ {beliefs : List ℕ} (believed : Believed (tabled (f .n) (f .m) t′) (runOf run) beliefs) where
+    held : Believed (deviceOf B) (runOf run) beliefs
+    held = subst (λ (v : Device). Believed v (runOf run) beliefs) (device-is h z) believed
 
-          pub no-number : getD fewest i 0 ≡ none
-              → AssembleAs inBytes book run t d plan legs (record { code = 11; place = 0; commands = 0; legs = 0; fewest = fewest }) t′ d′ plan legs
-          no-number s =
-              answered
-              (reached.no-chain (deviceOf b) (b .items) run allowed (inSlots d′) fields beliefs held plan legs some num′ (sym number-is ∙ s))
+    pub no-state : getD beliefs 0 0 ≡ 0 → {r : Assembly} → r ≡ refusal 10 0 → AssembleAs inBytes book run t d plan legs r t′ d′ plan legs
+    no-state s p = answered (reached.no-state (deviceOf B) (B .items) run allowed (inSlots d′) (fields h z) beliefs held plan legs s p)
 
-          module _ (number : getD fewest i 0 ≡ none → ⊥) where
-            pub can-walk : Walkable (inSlots d′) firsts i
-            can-walk =
-                subst (Walkable (inSlots d′) firsts) (sym i-is)
-                (reached.walkable (deviceOf b) (b .items) run allowed (inSlots d′) fields beliefs held plan legs some num′ (λ e. number (number-is ∙ e)))
+-- ---- some state is possible and the numbers are known
+pub record NumbersKnown (beliefs : List ℕ) (i : ℕ) (fewest firsts : List ℕ) (book run t d plan legs : List ℕ) (f : Reading) (t′ d′ : List ℕ) : Type 0 where
+  pub fine-run : FineRun book run t d plan legs f t′ d′
+  pub believed : Believed (tabled (f .n) (f .m) t′) (runOf run) beliefs
+  pub some : getD beliefs 0 0 ≡ 0 → ⊥
+  pub last-point : i ≡ lastOf run
+  pub num : Numbered (ruleOf (inSlots d′) run beliefs (f .items)) i fewest firsts
 
-            pub written : {w : Counts} {plan′ legs′ : List ℕ} → Walked (inSlots d′) firsts i plan legs w plan′ legs′
-                → AssembleAs inBytes book run t d plan legs (record { code = 0; place = 0; commands = w .commands; legs = w .legs; fewest = fewest }) t′ d′ plan′ legs′
-            written {w} {plan′} {legs′} k =
-                answered
-                (reached.chain-stored (deviceOf b) (b .items) run allowed (inSlots d′) fields beliefs held plan legs some num′ (λ e. number (number-is ∙ e))
-                (subst (λ (j : ℕ). Walked (inSlots d′) firsts j plan legs w plan′ legs′) i-is k))
+module _ {beliefs : List ℕ} {i : ℕ} {fewest firsts book run t d plan legs : List ℕ} {f : Reading} {t′ d′ : List ℕ}
+    (k : NumbersKnown beliefs i fewest firsts book run t d plan legs f t′ d′) where
+  abbrev w : FineRun book run t d plan legs f t′ d′
+  w = k .fine-run
+
+  i-is : i ≡ last (runOf run)
+  i-is = k .last-point ∙ last-is run
+
+  num′ : Numbered (ruleOf (inSlots d′) run beliefs (length (B w .items))) (last (runOf run)) fewest firsts
+  num′ = subst₂ (λ (n j : ℕ). Numbered (ruleOf (inSlots d′) run beliefs n) j fewest firsts) (items-is (h w) (z w)) i-is (k .num)
+
+  number-is : getD fewest i 0 ≡ getD fewest (last (runOf run)) 0
+  number-is = ap (λ (j : ℕ). getD fewest j 0) i-is
+
+  pub no-number : getD fewest i 0 ≡ none
+      → AssembleAs inBytes book run t d plan legs (record { code = 11; place = 0; commands = 0; legs = 0; fewest = fewest }) t′ d′ plan legs
+  no-number s =
+      answered w
+      (reached.no-chain (deviceOf (B w)) (B w .items) run (allowed w) (inSlots d′) (fields (h w) (z w)) beliefs (held w (k .believed)) plan legs (k .some) num′
+      (sym number-is ∙ s))
+
+  module _ (number : getD fewest i 0 ≡ none → ⊥) where
+    pub can-walk : Walkable (inSlots d′) firsts i
+    can-walk =
+        subst (Walkable (inSlots d′) firsts) (sym i-is)
+        (reached.walkable (deviceOf (B w)) (B w .items) run (allowed w) (inSlots d′) (fields (h w) (z w)) beliefs (held w (k .believed)) plan legs (k .some) num′
+        (λ e. number (number-is ∙ e)))
+
+    pub written : {counts : Counts} {plan′ legs′ : List ℕ} → Walked (inSlots d′) firsts i plan legs counts plan′ legs′
+        → AssembleAs inBytes book run t d plan legs (record { code = 0; place = 0; commands = counts .commands; legs = counts .legs; fewest = fewest }) t′ d′ plan′ legs′
+    written {counts} {plan′} {legs′} x =
+        answered w
+        (reached.chain-stored (deviceOf (B w)) (B w .items) run (allowed w) (inSlots d′) (fields (h w) (z w)) beliefs (held w (k .believed)) plan legs (k .some) num′
+        (λ e. number (number-is ∙ e)) (subst (λ (j : ℕ). Walked (inSlots d′) firsts j plan legs counts plan′ legs′) i-is x))

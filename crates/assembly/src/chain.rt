@@ -31,7 +31,8 @@ pub(crate) fn write_chain(
     legs: &mut [u8],
 ) -> Counts
     requires { ⌜ Walkable (inSlots (now slots)) (now items) i ⌝ }
-    ensures { λ r. ⌜ Walked (inSlots (now (slots .entry))) (now (items .entry)) i (now (plan .entry)) (now (legs .entry)) r (now (plan .exit)) (now (legs .exit)) ⌝ }
+    ensures { λ r. ⌜ Walked (inSlots (now (slots .entry))) (now (items .entry)) i
+        (now (plan .entry)) (now (legs .entry)) r (now (plan .exit)) (now (legs .exit)) ⌝ }
 {
     let mut j = i;
     let mut commands: u64 = 0;

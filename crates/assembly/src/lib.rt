@@ -44,7 +44,9 @@ pub fn assemble(
     plan: &mut [u8],
     legs: &mut [u8],
 ) -> Assembly
-    ensures { λ r. ⌜ AssembleAs inBytes (now (book .entry)) (now (run .entry)) (now (table .entry)) (now (slots .entry)) (now (plan .entry)) (now (legs .entry)) r (now (table .exit)) (now (slots .exit)) (now (plan .exit)) (now (legs .exit)) ⌝ }
+    ensures { λ r. ⌜ AssembleAs inBytes (now (book .entry)) (now (run .entry))
+        (now (table .entry)) (now (slots .entry)) (now (plan .entry)) (now (legs .entry)) r
+        (now (table .exit)) (now (slots .exit)) (now (plan .exit)) (now (legs .exit)) ⌝ }
 {
     if plan.len() < 256 {
         return refused(1, 0);

@@ -49,7 +49,8 @@ fn best(
     j: u64,
 ) -> Choice
     requires { ⌜ (count ≤ 64) × (j ≤ 32) ⌝ }
-    ensures { λ r. ⌜ Chosen (ruleOf (inSlots (now (slots .entry))) (now (run .entry)) (now (sets .entry)) count) (now (fewest .entry)) j count (r .number) (r .item) ⌝ }
+    ensures { λ r. ⌜ Chosen (ruleOf (inSlots (now (slots .entry))) (now (run .entry)) (now (sets .entry)) count)
+        (now (fewest .entry)) j count (r .number) (r .item) ⌝ }
 {
     let mut number: u64 = 65535;
     let mut item: u64 = 0;

@@ -1,15 +1,17 @@
 -- `assemble` meets its contract: each way through it by a law of proofs/WaysOfAssemble. Assumes nothing.
-use mathlib.Core.Path.{_≡_}
-use Prim.Native.Nat.{_≤_, _<_}
+use mathlib.Core.Path.{sym, _∙_}
+use mathlib.Core.List.{List}
+use Prim.Native.Nat.{ℕ, _<_}
 use native.Mathlib.Omega.{arith}
 use borrow.Author.Needs.{needs}
+use borrow.Author.Tests.{not-true, not-false}
 use Rattle.base.specs.Lists.{Bytes}
 use Rattle.base.proofs.Lists.{each-of}
-use Rattle.runs.specs.Computed.{lastOf}
+use Rattle.reader.specs.declared.Reading.{Reading}
 use Rattle.assembly.specs.Assembles.{inBytes}
 use Rattle.assembly.proofs.Room.{plan-short, legs-short}
 use Rattle.assembly.proofs.WaysOfAssemble as ways
-use Rattle.assembly.proofs.WaysOfAssemble.{Entered}
+use Rattle.assembly.proofs.WaysOfAssemble.{Entered, FineRun, NumbersKnown}
 use Rattle.assembly.proofs.assemble.Statement.{statement}
 use Rattle.assembly.proofs.assemble.Tie as tie
 use Rattle.assembly.proofs.assemble.Reads as reads
@@ -63,13 +65,39 @@ book-bytes c = each-of (λ x. x < 256) (start c .args .book .now) 0 (λ i h. ome
 run-bytes : (c : tie.After-slice-known4) → Bytes (start c .args .run .now)
 run-bytes c = each-of (λ x. x < 256) (start c .args .run .now) 0 (λ i h. omega (arith, c .before .before .before .before .shared-slice-known2 .given i))
 
-entered : (c : tie.After-check) → let a = start (entry c) .args in
-    Entered (a .book .now) (a .run .now) (a .table .now) (a .slots .now) (a .plan .now) (a .legs .now) (c .check .result) (c .check .last .1 .0) (c .check .last .1 .1 .0)
+-- of the call's arguments, and of what checking gave and left
+abbrev Of : ((book run t d plan legs : List ℕ) → Reading → (t′ d′ : List ℕ) → Type 0) → tie.After-check → Type 0
+Of P c =
+    let a = start (entry c) .args in
+    P (a .book .now) (a .run .now) (a .table .now) (a .slots .now) (a .plan .now) (a .legs .now) (c .check .result) (c .check .last .1 .0) (c .check .last .1 .1 .0)
+
+entered : (c : tie.After-check) → Of Entered c
 entered c =
     record {
       check = c .check .ensures;
       run-bytes = run-bytes (entry c);
       room = (c .before .before .before .before .if1 .left, c .before .before .before .if2 .left);
+    }
+
+fine-run : (c : tie.Else4) → Of FineRun (checked (accepted c .before))
+fine-run c =
+    record {
+      entered = entered (checked (accepted c .before));
+      accepted = accepted c .if3 .left;
+      fine = not-true _ (sym (c .before .run-fine .ensures) ∙ not-false _ (c .if4 .left));
+    }
+
+numbers-known : (c : tie.After-points-of)
+    → Of (NumbersKnown (possible (pointed c) .before .beliefs .result) (pointed c .last-point .result) (c .points-of .result .fewest) (c .points-of .result .items))
+    (checked (taken c))
+numbers-known c =
+    let s = possible (pointed c) in
+    record {
+      fine-run = fine-run (fine (s .before));
+      believed = s .before .beliefs .ensures;
+      some = s .if5 .left;
+      last-point = pointed c .last-point .ensures .0;
+      num = c .points-of .ensures;
     }
 
 refused-requires : tie.Need-refused-requires
@@ -121,17 +149,14 @@ same-length-4 c = search needs
 returns-4 : tie.Need-returns-4
 returns-4 c =
     let t = c .before .before in
-    ways.run-refused (entered (checked (t .before .before))) (t .before .if3 .left) (t .run-fine .ensures) (c .before .if4 .taken) (c .refused4 .ensures)
-
--- the run's last point
-low : (c : tie.Else4) → lastOf (start (entry (checked (accepted c .before))) .args .run .now) ≤ 32
-low c = ways.low (entered (checked (accepted c .before))) (accepted c .if3 .left) (c .before .run-fine .ensures) (c .if4 .left)
+    ways.run-refused (entered (checked (t .before .before))) (t .before .if3 .left)
+    (not-false _ (sym (t .run-fine .ensures) ∙ not-true _ (c .before .if4 .taken))) (c .refused4 .ensures)
 
 beliefs-requires : tie.Need-beliefs-requires
 beliefs-requires c κs =
-    let t = accepted (c .before) in
-    let (n, m, items) = ways.limits (entered (checked (t .before))) (t .if3 .left) in
-    (n, m, low (c .before))
+    let w = fine-run (c .before) in
+    let (n, m, items) = ways.limits (w .entered) (w .accepted) in
+    (n, m, ways.low w)
 
 array-read-if5 : tie.Need-array-read-if5
 array-read-if5 c = search needs
@@ -146,11 +171,7 @@ same-length-6 : tie.Need-same-length-6
 same-length-6 c = search needs
 
 returns-5 : tie.Need-returns-5
-returns-5 c =
-    let s = c .before .before in
-    let u = fine s in
-    let t = accepted u in
-    ways.no-state (entered (checked (t .before))) (t .if3 .left) (u .before .run-fine .ensures) (u .if4 .left) (s .beliefs .ensures) (c .before .if5 .taken) (c .refused5 .ensures)
+returns-5 c = ways.no-state (fine-run (fine (c .before .before))) (c .before .before .beliefs .ensures) (c .before .if5 .taken) (c .refused5 .ensures)
 
 last-point-requires : tie.Need-last-point-requires
 last-point-requires c κs = search needs
@@ -158,11 +179,9 @@ last-point-requires c κs = search needs
 points-of-requires : tie.Need-points-of-requires
 points-of-requires c κs =
     let i = c .before .before in
-    let u = fine (possible i .before) in
-    let t = accepted u in
-    let h = entered (checked (t .before)) in
-    let (n, m, items) = ways.limits h (t .if3 .left) in
-    (items, omega (arith, low u, i .last-point .ensures .0), ways.movable h (t .if3 .left))
+    let w = fine-run (fine (possible i .before)) in
+    let (n, m, items) = ways.limits (w .entered) (w .accepted) in
+    (items, omega (arith, ways.low w, i .last-point .ensures .0), ways.movable (w .entered) (w .accepted))
 
 mul-if6 : tie.Need-mul-if6
 mul-if6 c = search needs
@@ -177,24 +196,10 @@ same-length-8 : tie.Need-same-length-8
 same-length-8 c = search needs
 
 returns-6 : tie.Need-returns-6
-returns-6 c =
-    let p = c .before .before .before in
-    let i = pointed p in
-    let s = possible i in
-    let u = fine (s .before) in
-    let t = accepted u in
-    ways.no-number (entered (checked (t .before))) (t .if3 .left) (u .before .run-fine .ensures) (u .if4 .left) (s .before .beliefs .ensures) (s .if5 .left)
-    (i .last-point .ensures .0) (p .points-of .ensures) (c .before .if6 .taken)
+returns-6 c = ways.no-number (numbers-known (c .before .before .before)) (c .before .if6 .taken)
 
 write-chain-requires : tie.Need-write-chain-requires
-write-chain-requires c κs =
-    let p = numbered (chain c) in
-    let i = pointed p in
-    let s = possible i in
-    let u = fine (s .before) in
-    let t = accepted u in
-    ways.can-walk (entered (checked (t .before))) (t .if3 .left) (u .before .run-fine .ensures) (u .if4 .left) (s .before .beliefs .ensures) (s .if5 .left)
-    (i .last-point .ensures .0) (p .points-of .ensures) (chain c .if6 .left)
+write-chain-requires c κs = ways.can-walk (numbers-known (numbered (chain c))) (chain c .if6 .left)
 
 same-length-9 : tie.Need-same-length-9
 same-length-9 c = taken (numbered (chain (walked c .before))) .before .before .before .before .table .given
@@ -211,13 +216,7 @@ same-length-12 c = search needs
 returns-7 : tie.Need-returns-7
 returns-7 c =
     let w = walked c in
-    let p = numbered (chain (w .before)) in
-    let i = pointed p in
-    let s = possible i in
-    let u = fine (s .before) in
-    let t = accepted u in
-    ways.written (entered (checked (t .before))) (t .if3 .left) (u .before .run-fine .ensures) (u .if4 .left) (s .before .beliefs .ensures) (s .if5 .left)
-    (i .last-point .ensures .0) (p .points-of .ensures) (chain (w .before) .if6 .left) (w .write-chain .ensures)
+    ways.written (numbers-known (numbered (chain (w .before)))) (chain (w .before) .if6 .left) (w .write-chain .ensures)
 
 pub assemble-spec : {M : Type 1} → statement M
 assemble-spec =

@@ -56,8 +56,8 @@ head2 c = c .before .before .before
 abbrev device : tie.Start Inv-loop μ-loop Inv-loop2 μ-loop2 → Device
 device c = tabled (c .args .n) (c .args .m) (c .args .table .now)
 
-abbrev record-of : tie.Start Inv-loop μ-loop Inv-loop2 μ-loop2 → Run
-record-of c = runOf (c .args .run .now)
+abbrev run-of : tie.Start Inv-loop μ-loop Inv-loop2 μ-loop2 → Run
+run-of c = runOf (c .args .run .now)
 
 last-point-requires : tie.Need-last-point-requires Inv-loop μ-loop Inv-loop2 μ-loop2
 last-point-requires c κs = search needs
@@ -71,7 +71,7 @@ array-write-sets c = search needs
 loop-holds : tie.Need-loop-holds Inv-loop μ-loop Inv-loop2 μ-loop2
 loop-holds c =
     let s = start (c .before) in
-    forward-start (device s) (record-of s) _ (replicate 33 0) _ refl (omega (arith, s .pre .2, c .before .last-point .ensures .0))
+    forward-start (device s) (run-of s) _ (replicate 33 0) _ refl (omega (arith, s .pre .2, c .before .last-point .ensures .0))
     (c .percept-at .ensures ∙ percept-is (s .args .run .now) 0 (omega arith))
 
 mul-of : tie.Need-mul-of Inv-loop μ-loop Inv-loop2 μ-loop2
@@ -122,7 +122,7 @@ loop-again c =
     let last-point = pointed l .last-point .ensures .0 in
     let sent = t .before .command-at .result in
     let seen = c .before .percept-at2 .result in
-    forward-next (device s) (record-of s) _ (l .loop .inv) _ _ _ (omega arith)
+    forward-next (device s) (run-of s) _ (l .loop .inv) _ _ _ (omega arith)
     (t .before .command-at .ensures ∙ command-is (a .run .now) (l .loop .j) (omega (arith, last-point)))
     (c .before .percept-at2 .ensures ∙ percept-is (a .run .now) (l .loop .j + 1) (omega (arith, last-point)))
     (ap (λ (x : StateSet). x .mask) (c .within .ensures) ∙ ap (λ (x : StateSet). bitAnd (x .mask) seen) (t .after .ensures)
@@ -133,7 +133,7 @@ loop-again c =
 loop2-holds : tie.Need-loop2-holds Inv-loop μ-loop Inv-loop2 μ-loop2
 loop2-holds c =
     let s = start (pointed (c .before)) in
-    backward-start (device s) (record-of s) _ (c .before .loop .inv) (omega (arith, c .before .loop .inv))
+    backward-start (device s) (run-of s) _ (c .before .loop .inv) (omega (arith, c .before .loop .inv))
 
 sub-j : tie.Need-sub-j Inv-loop μ-loop Inv-loop2 μ-loop2
 sub-j c = omega arith
@@ -179,7 +179,7 @@ loop2-again c =
     let a = s .args in
     let last-point = pointed2 l .last-point .ensures .0 in
     let sent = t .command-at2 .result in
-    backward-next (device s) (record-of s) _ (l .loop2 .inv) _ _ (omega arith)
+    backward-next (device s) (run-of s) _ (l .loop2 .inv) _ _ (omega arith)
     (t .command-at2 .ensures ∙ command-is (a .run .now) (l .loop2 .j - 1) (omega (arith, last-point, l .loop2 .inv)))
     (ap (λ (x : StateSet). x .mask) (c .before2 .ensures)
     ∙ ap (λ (x : StateSet). beforeIn (a .n) (a .m) (a .table .now) sent (x .mask) (getD (l .loop2 .sets) (l .loop2 .j - 1 + 1) 0)) (t .before .of2 .ensures)
@@ -189,7 +189,7 @@ returns : tie.Need-returns Inv-loop μ-loop Inv-loop2 μ-loop2
 returns c =
     let s = start (pointed2 (c .before)) in
     let last-point = pointed2 (c .before) .last-point .ensures .0 in
-    backward-done (device s) (record-of s) _ (c .before .loop2 .inv) (omega arith) (last-point ∙ last-is (s .args .run .now))
+    backward-done (device s) (run-of s) _ (c .before .loop2 .inv) (omega arith) (last-point ∙ last-is (s .args .run .now))
 
 pub beliefs-spec : {M : Type 1} → statement M
 beliefs-spec =

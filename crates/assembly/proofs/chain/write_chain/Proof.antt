@@ -1,11 +1,8 @@
 -- `write_chain` meets its contract. The loop's invariant: what is left to write gives the whole (`Walking`). Assumes nothing.
-use mathlib.Core.Path.{_≡_}
-use Prim.Native.Nat.{ℕ, _+_, _≤_}
+use Prim.Native.Nat.{_+_, _≤_}
 use native.Mathlib.Omega.{arith}
 use borrow.Author.Needs.{needs}
-use lib.ListN.{length}
 use Rattle.assembly.specs.Fields.{inSlots}
-use Rattle.assembly.specs.ChainFollowed.{planIn, walk}
 use Rattle.assembly.proofs.ChainWritten.{Walking, walking-start, step-down, step-commands, walking-next, walked}
 use Rattle.assembly.proofs.chain.write_chain.Statement.{statement}
 use Rattle.assembly.proofs.chain.write_chain.Tie as tie

@@ -1,10 +1,6 @@
 -- `put_reverse` meets its contract. Assumes nothing.
-use mathlib.Core.Path.{ap, _∙_}
-use Prim.Native.Nat.{ℕ, _+_, _*_}
 use borrow.Author.Needs.{needs}
-use lib.Seq.{sets}
-use Rattle.num.specs.Parts.{piece}
-use Rattle.num.proofs.Put.{length-piece}
+use Rattle.assembly.proofs.SlotsOfBook.{reverse-stored}
 use Rattle.assembly.proofs.slot.put_reverse.Statement.{statement}
 use Rattle.assembly.proofs.slot.put_reverse.Tie as tie
 use Rattle.assembly.proofs.slot.put_reverse.Reads as reads
@@ -29,9 +25,9 @@ same-length c = search needs
 
 returns : tie.Need-returns
 returns c =
-    let a = c .before .before .before .before .before .before .before .args in
-    let r-is = c .before .before .before .before .r .ensures .0 ∙ length-piece _ _ _ in
-    c .before .before .copy .ensures ∙ ap (λ (x : ℕ). sets (a .plan .now) (a .at) (piece x (a .slots .now) (34 * a .a + 10))) r-is
+    let s = c .before .before .before .before .before .before .before in
+    reverse-stored (s .args .slots .now) (s .args .plan .now) (s .args .a) (s .args .at) _ (c .before .before .before .before .r .ensures .0)
+    (c .before .before .copy .ensures)
 
 pub put-reverse-spec : {M : Type 1} → statement M
 put-reverse-spec =

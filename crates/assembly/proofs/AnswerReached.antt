@@ -76,13 +76,13 @@ module _ (dev : Device) (items : List Item) (run : List ℕ) (allowed : Allowed 
     least-is : getD fewest i 0 ≡ leastAt Q i
     least-is =
         ap (λ (ns : List ℕ). getD ns i 0) (num .fewest)
-        ∙ List·getD-append (leasts Q i) (replicate (32 - i) none) 0 i (omega (arith, leasts-length Q i))
+        ∙ List·getD-append (leasts Q i) (replicate (32 - i) (Q .top)) 0 i (omega (arith, leasts-length Q i))
         ∙ leasts-at Q i i (omega arith)
 
-    module _ (no-number : getD fewest i 0 ≡ none) where
+    module _ (no-number : getD fewest i 0 ≡ Q .top) where
       answer-11 : answer dev items r ≡ refused 11 fewest
       unfolding answer pick
-      answer-11 = rw (ne-eqb (belief dev r 0) 0 possible, eq-eqb (leastAt Q i) none (sym least-is ∙ no-number)) (ap (refused 11) (sym fewest-is))
+      answer-11 = rw (ne-eqb (belief dev r 0) 0 possible, eq-eqb (leastAt Q i) (Q .top) (sym least-is ∙ no-number)) (ap (refused 11) (sym fewest-is))
 
       pub no-chain : Stored (answer dev items r) plan legs (record { code = 11; place = 0; commands = 0; legs = 0; fewest = fewest }) plan legs
       unfolding legsBytes
@@ -91,20 +91,20 @@ module _ (dev : Device) (items : List Item) (run : List ℕ) (allowed : Allowed 
           (λ (a : Answer). Stored a plan legs (record { code = 11; place = 0; commands = 0; legs = 0; fewest = fewest }) plan legs)
           (sym answer-11) (record { result-is = refl; plan-is = refl; legs-is = refl })
 
-    module _ (number : getD fewest i 0 ≡ none → ⊥) where
+    module _ (number : getD fewest i 0 ≡ Q .top → ⊥) where
       abbrev xs : List ℕ
       xs = chosen Q i i
 
       answer-0 : answer dev items r ≡ assembled items i xs fewest
       unfolding answer pick
       answer-0 =
-          rw (ne-eqb (belief dev r 0) 0 possible, ne-eqb (leastAt Q i) none (λ e. number (least-is ∙ e)))
+          rw (ne-eqb (belief dev r 0) 0 possible, ne-eqb (leastAt Q i) (Q .top) (λ e. number (least-is ∙ e)))
           (ap (assembled items i xs) (sym fewest-is))
 
-      below : leastAt Q i < none
+      below : leastAt Q i < Q .top
       below = strictly (least-most Q (sound dev items r allowed) i) (λ e. number (least-is ∙ e))
         where
-          strictly : {x : ℕ} → x ≤ none → (x ≡ none → ⊥) → x < none
+          strictly : {x : ℕ} → x ≤ Q .top → (x ≡ Q .top → ⊥) → x < Q .top
           strictly {x} l d = omega (arith, l, d)
 
       linked : Linked Q i xs × (total Q xs ≡ leastAt Q i)

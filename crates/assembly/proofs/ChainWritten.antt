@@ -5,9 +5,9 @@ use Prim.Native.Nat.{ℕ, zero, suc, _+_, _-_, _*_, _≤_, _<_}
 use native.Mathlib.Omega.{arith}
 use lib.ListN.{length, getD, length-append}
 use lib.Seq.{sets, length-sets}
-use Rattle.num.specs.Le.{bytesLe}
-use Rattle.num.proofs.Le.{byte-one}
-use Rattle.num.proofs.Put.{sets-append}
+use Rattle.octets.specs.Le.{bytesLe}
+use Rattle.octets.proofs.Le.{byte-one}
+use Rattle.octets.proofs.Put.{sets-append}
 use Rattle.assembly.specs.Fields.{Fields}
 use Rattle.assembly.specs.ChainFollowed.{followed, Steps, planIn, legBytes, legsIn, walk, Walkable, Walked}
 

@@ -5,8 +5,8 @@ use Prim.Native.Nat.{ℕ, _+_, _-_, _*_, _≤_, _<_}
 use native.Mathlib.Omega.{arith}
 use lib.ListN.{length, getD, take, drop}
 use lib.Seq.{sets}
-use Rattle.num.specs.Parts.{piece}
-use Rattle.num.proofs.Put.{length-piece, piece-take}
+use Rattle.octets.specs.Parts.{piece}
+use Rattle.octets.proofs.Put.{length-piece, piece-take}
 use Rattle.reversal.specs.Reversal.{Item}
 use Rattle.reversal.specs.Chains.{item}
 use Rattle.book.specs.Book.{Book, AllowedBook}

@@ -17,9 +17,9 @@ fn put_leg(legs: &mut [u8], at: usize, number: u64, upper: u64, lower: u64)
     requires { ⌜ (at < 1024) × (number < 256) × (upper < 256) × (lower < 256) ⌝ }
     ensures { λ _. ⌜ now (legs .exit) ≡ sets (now (legs .entry)) at (legBytes number upper lower) ⌝ }
 {
-    num::put_le(1, number, legs, at);
-    num::put_le(1, upper, legs, at + 1);
-    num::put_le(1, lower, legs, at + 2);
+    octets::put_le(1, number, legs, at);
+    octets::put_le(1, upper, legs, at + 1);
+    octets::put_le(1, lower, legs, at + 2);
 }
 
 // Follows the items from point i down to 0; writes the reverse commands and a leg of each.
@@ -38,7 +38,7 @@ pub(crate) fn write_chain(
     let mut commands: u64 = 0;
     let mut count: u64 = 0;
     while 0 < j {
-        let a = num::byte_at(items, j as usize);
+        let a = octets::byte_at(items, j as usize);
         let k = slot::k(slots, a);
         slot::put_reverse(slots, a, plan, commands as usize);
         put_leg(legs, (3 * count) as usize, a, j, j - k);

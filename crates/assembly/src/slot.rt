@@ -10,7 +10,7 @@ pub(crate) fn k(slots: &[u8], a: u64) -> u64
     requires { ⌜ a < 256 ⌝ }
     ensures { λ r. ⌜ (r ≡ kAt (now (slots .entry)) a) × (r < 256) ⌝ }
 {
-    num::byte_at(slots, (34 * a) as usize)
+    octets::byte_at(slots, (34 * a) as usize)
 }
 
 // The number of reverse commands.
@@ -18,7 +18,7 @@ pub(crate) fn r(slots: &[u8], a: u64) -> u64
     requires { ⌜ a < 256 ⌝ }
     ensures { λ r. ⌜ (r ≡ length (reverseAt (now (slots .entry)) a)) × (r < 256) ⌝ }
 {
-    num::byte_at(slots, (34 * a) as usize + 1)
+    octets::byte_at(slots, (34 * a) as usize + 1)
 }
 
 // The forward command x.
@@ -26,7 +26,7 @@ pub(crate) fn forward(slots: &[u8], a: u64, x: u64) -> u64
     requires { ⌜ (a < 256) × (x < 256) ⌝ }
     ensures { λ r. ⌜ r ≡ forwardAt (now (slots .entry)) a x ⌝ }
 {
-    num::byte_at(slots, (34 * a) as usize + 2 + x as usize)
+    octets::byte_at(slots, (34 * a) as usize + 2 + x as usize)
 }
 
 // Writes the reverse commands into the plan, from `at` on.
@@ -35,19 +35,19 @@ pub(crate) fn put_reverse(slots: &[u8], a: u64, plan: &mut [u8], at: usize)
     ensures { λ _. ⌜ now (plan .exit) ≡ sets (now (plan .entry)) at (reverseAt (now (slots .entry)) a) ⌝ }
 {
     let count = r(slots, a) as usize;
-    num::copy(count, slots, (34 * a) as usize + 10, plan, at);
+    octets::copy(count, slots, (34 * a) as usize + 10, plan, at);
 }
 
 pub(crate) fn phi(slots: &[u8], a: u64) -> u64
     requires { ⌜ a < 256 ⌝ }
     ensures { λ r. ⌜ r ≡ phiAt (now (slots .entry)) a ⌝ }
 {
-    num::u64_at(slots, (34 * a) as usize + 18)
+    octets::u64_at(slots, (34 * a) as usize + 18)
 }
 
 pub(crate) fn psi(slots: &[u8], a: u64) -> u64
     requires { ⌜ a < 256 ⌝ }
     ensures { λ r. ⌜ r ≡ psiAt (now (slots .entry)) a ⌝ }
 {
-    num::u64_at(slots, (34 * a) as usize + 26)
+    octets::u64_at(slots, (34 * a) as usize + 26)
 }

@@ -63,8 +63,8 @@ fn run_with(kind: u64, book: &[u8]) {
 fn run_all(s: &[u8]) {
     let mut at: usize = 0;
     while at < s.len() {
-        let len = num::u16_at(s, at + 1) as usize;
-        run_with(num::byte_at(s, at), vectors::part(s, at + 3, len));
+        let len = octets::u16_at(s, at + 1) as usize;
+        run_with(octets::byte_at(s, at), vectors::part(s, at + 3, len));
         at = at + 3 + len;
     }
 }

@@ -42,8 +42,8 @@ fn next_case(file: i32) {
     let mut book = [0u8; 31111];
     let mut run = [0u8; 302];
     io::read_full(file, &mut sizes);
-    let book_size = read_part(file, num::u16_at(&sizes, 0) as u16, &mut book);
-    let run_size = read_part(file, num::u16_at(&sizes, 2) as u16, &mut run);
+    let book_size = read_part(file, octets::u16_at(&sizes, 0) as u16, &mut book);
+    let run_size = read_part(file, octets::u16_at(&sizes, 2) as u16, &mut run);
     run_case(&book[..book_size], &run[..run_size]);
 }
 

@@ -3,18 +3,14 @@ use mathlib.Core.Path.{_≡_, sym, ap, ap₂, _∙_}
 use mathlib.Core.List.{List}
 use Prim.Native.Nat.{ℕ, _≤_}
 use native.Mathlib.Omega.{arith}
-use Rattle.reversal.specs.Device.{Device, tabled}
+use Rattle.reversal.specs.Device.{tabled}
 use Rattle.book.specs.Book.{deviceOf, WellFormed}
-use Rattle.book.specs.Buffers.{tableOf}
 use Rattle.book.proofs.Device.{tabled-device}
 use Rattle.reader.specs.declared.Reading.{Reading}
 use Rattle.reader.specs.Reads.{refusal, done}
 use Rattle.reader.specs.Contract.{ReadAs}
 use Rattle.reader.proofs.Exactly.{BookRead, book-read, not-read, when-fine}
-use Rattle.checker.specs.declared.Verdict.{Verdict}
 use Rattle.checker.specs.declared.Judgement.{Judgement}
-use Rattle.checker.specs.declared.Judgement.the-variants.{AllAccepted, Wrong}
-use Rattle.checker.specs.Verdicts.{codeOf}
 use Rattle.checker.specs.Contract.{Judged, onJudgement, judgedBy, checkBy, CheckAs}
 
 module _ {s t d : List ℕ} {r : Reading} {t′ d′ : List ℕ} (c : ReadAs s t d r t′ d′) where

@@ -11,14 +11,15 @@ use Rattle.base.specs.Tests.{pick, both, imp}
 use Rattle.base.specs.Compare.{less, atMost, same, differ}
 use Rattle.base.specs.Bounded.{all, union, seek}
 use Rattle.base.specs.Masks.{member, clearFrom}
-use Rattle.num.specs.Le.{bytesLe}
+use Rattle.octets.specs.Le.{bytesLe}
 use Rattle.reversal.specs.Device.{Device}
 use Rattle.reversal.specs.Reversal.{Accepted}
 use Rattle.reversal.specs.Twelve.{made, itemsQ}
 use Rattle.reversal.specs.Computed.Sets.{after, able, reach, runsBack, ends, startOk, accepts}
 use Rattle.reversal.proofs.Cases.{twelve}
 use Rattle.book.specs.Book.{Book, outcomeOf, frame, bytesOf}
-use Rattle.book.specs.Parse.{parse, cutAfter, scan, step, allBelow, moveOf, itemOf, movesIn, itemsIn}
+use Rattle.book.specs.Parse.{parse, cutAfter, scan, step, moveOf, itemOf, movesIn, itemsIn}
+use Rattle.book.specs.Limits.{allBelow}
 use Rattle.book.specs.Parse.Parsed.{Ok}
 use Rattle.book.specs.Example.{bookQ, bytesQ}
 use Rattle.book.proofs.Fields.{all-on}

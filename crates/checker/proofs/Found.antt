@@ -1,30 +1,20 @@
 -- The slots of a book that was read hold its items. Assumes nothing.
 use mathlib.Core.Path.{_≡_, sym, ap, _∙_}
-use mathlib.Core.Bool.{not}
-use mathlib.Core.List.{List, [], _∷_, _++_, map}
-use Prim.Native.Nat.{ℕ, zero, suc, _+_, _-_, _*_, _≤_, _<_}
+use mathlib.Core.List.{List, _++_}
+use Prim.Native.Nat.{ℕ, _+_, _-_, _*_, _≤_, _<_}
 use native.Mathlib.Nat.{add-zero}
 use native.Mathlib.Omega.{arith}
-use lib.ListN.{length, getD, take, drop, length-append, take-append-drop, drop-of-length-le}
-use lib.Seq.{drop-cons, getD-drop, length-sets}
-use Rattle.base.specs.Bounded.{seek}
+use lib.ListN.{length, getD, drop}
+use lib.Seq.{getD-drop, length-sets}
 use Rattle.base.proofs.Lists.{each-at}
-use Rattle.base.proofs.Bounded.{seek-same}
-use Rattle.reversal.specs.Device.{Device, tabled}
-use Rattle.reversal.specs.Reversal.{Item, AllowedItem}
+use Rattle.reversal.specs.Reversal.{AllowedItem}
 use Rattle.reversal.specs.Chains.{absent, item}
-use Rattle.reversal.specs.Computed.Sets.{accepts}
-use Rattle.book.specs.Book.{Book, deviceOf, AllowedBook, itemRec, frame, framed, bytesOf}
+use Rattle.book.specs.Book.{Book, deviceOf, AllowedBook}
 use Rattle.book.specs.Lent.{slotOf, slotsBytes}
-use Rattle.book.specs.Buffers.{tableOf, slotsOf, itemAt}
-use Rattle.book.proofs.Scanning.{length-frame, book-length}
-use Rattle.book.proofs.Bodies.{item-length}
+use Rattle.book.specs.Buffers.{slotsOf, itemAt}
 use Rattle.book.proofs.Slots.{slots-front}
 use Rattle.book.proofs.Items.{slot-at, slot-item}
-use Rattle.book.proofs.Device.{tabled-device}
 use Rattle.checker.specs.Judged.{Judgeable}
-use Rattle.checker.specs.Checks.{placeOf}
-use Rattle.checker.specs.Contract.{wrongItem}
 
 module _ (b : Book) (d : List ℕ) (a : AllowedBook b) (long : 2176 ≤ length d) where
   -- slot i begins with the slot of item i

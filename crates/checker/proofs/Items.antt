@@ -9,7 +9,7 @@ use borrow.Author.Tests.{lt-ltb}
 use lib.Bits.{bitAnd}
 use lib.Dec.{eqb}
 use lib.ListN.{length, getD, take, drop}
-use lib.Seq.{take-suc, take-all, getD-take, getD-drop}
+use lib.Seq.{take-suc, take-all}
 use Rattle.base.specs.Tests.{pick, both, imp}
 use Rattle.base.specs.Bounded.{all}
 use Rattle.base.specs.Masks.{member, added}
@@ -51,16 +51,23 @@ module _ (n m : ℕ) (table s : List ℕ) (at : ℕ) (p : Place) where
   Passed S = (x : Item) → Fields s at p x → all (passes d x) S ≡ true
 
   -- ---- forward commands
+
+  -- the part of the bytes that holds them
+  abbrev forward : List ℕ
+  forward = take (at + 6 + p .k - (at + 6)) (drop (at + 6) s)
+
+  forward-is : (x : Item) → Fields s at p x → forward ≡ x .forward
+  forward-is x f = let e : at + 6 + p .k - (at + 6) ≡ p .k = omega arith in rw e (f .forward-is)
+
   pub reach-start : (S : ℕ) (none set : StateSet) → S < 64 → none ≡ setOf 0 → set ≡ setOf (added (none .mask) S) → Reached S set 0
   unfolding reach added pick
   reach-start S none set h z e = λ x f. e ∙ rw (z, lt-ltb S 64 h)
 
-  pub reach-next : (S : ℕ) (set set′ : StateSet) (j c : ℕ) → n ≤ 64 → m ≤ 32 → j < p .k → Reached S set j → c ≡ getD s (at + 6 + j) 0
+  pub reach-next : (S : ℕ) (set set′ : StateSet) (j c : ℕ) → n ≤ 64 → m ≤ 32 → j < p .k → Reached S set j → c ≡ getD forward j 0
       → set′ ≡ setOf (afterIn n m table c (set .mask)) → Reached S set′ (j + 1)
   reach-next S set set′ j c hn hm l e b q = λ x f.
       let l′ : j < length (x .forward) = omega (arith, f .k-is) in
-      let here : getD s (at + 6 + j) 0 ≡ getD (x .forward) j 0 =
-      sym (sym (ap (λ (t : List ℕ). getD t j 0) (f .forward-is)) ∙ getD-take (p .k) (drop (at + 6) s) j 0 l ∙ getD-drop (at + 6) s j 0) in
+      let here : getD forward j 0 ≡ getD (x .forward) j 0 = ap (λ (t : List ℕ). getD t j 0) (forward-is x f) in
       q
       ∙ ap setOf
       (after-limits n m table c (set .mask) hn hm

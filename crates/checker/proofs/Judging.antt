@@ -1,5 +1,5 @@
 -- The judgement of a book's items: the loop over them, and the place of a record. Assumes nothing.
-use mathlib.Core.Path.{_≡_, refl, sym, ap, ap₂, _∙_}
+use mathlib.Core.Path.{_≡_, refl, sym, ap, _∙_}
 use mathlib.Core.Bool.{Bool, true, false, not}
 use mathlib.Core.List.{List, [], _∷_, _++_, map}
 use Prim.Native.Nat.{ℕ, suc, _+_, _-_, _≤_, _<_}
@@ -15,8 +15,9 @@ use Rattle.reversal.specs.Chains.{item}
 use Rattle.reversal.specs.Computed.Sets.{accepts}
 use Rattle.book.specs.Book.{Book, deviceOf, AllowedBook, bytesOf, itemRec, frame, framed}
 use Rattle.book.proofs.Scanning.{book-length}
-use Rattle.items.specs.Items.{ItemStands}
+use Rattle.items.specs.Items.{Begins, ItemStands}
 use Rattle.items.proofs.Laws.{in-book}
+use Rattle.items.proofs.Walk.{one-more, all-passed}
 use Rattle.checker.specs.declared.Verdict.the-variants.{NoReversePlan}
 use Rattle.checker.specs.declared.Judgement.the-variants.{AllAccepted, Wrong}
 use Rattle.checker.specs.Checks.{placeOf}
@@ -60,32 +61,40 @@ module _ (b : Book) where
 abbrev pub wrongAt : Device → Book → ℕ → Bool
 wrongAt d b i = not (accepts d (item (b .items) i))
 
--- what is left to judge from item i on gives the whole
-abbrev pub Left : List ℕ → Device → ℕ → ℕ → Type 0
-Left s d count i = (b : Book) → AllowedBook b → bytesOf b ≡ s → seek (wrongAt d b) i (count - i) ≡ seek (wrongAt d b) 0 count
+-- the walk stands at an item's record, or past the last: what is left to judge gives the whole
+pub record Walking (d : Device) (s : List ℕ) (b : Book) (at : ℕ) : Type 0 where
+  pub number : ℕ
+  pub known : number ≤ length (b .items)
+  pub here : Begins s b number at
+  pub left : seek (wrongAt d b) number (length (b .items) - number) ≡ seek (wrongAt d b) 0 (length (b .items))
 
-pub left-all : (s : List ℕ) (d : Device) (count : ℕ) → Left s d count 0
-left-all s d count b a q = let e : count - 0 ≡ count = omega arith in rw e
+module _ (d : Device) (s : List ℕ) (b : Book) where
+  pub at-first : (at : ℕ) → Begins s b 0 at → Walking d s b at
+  at-first at q = let e : length (b .items) - 0 ≡ length (b .items) = omega arith in record { number = 0; known = omega arith; here = q; left = rw e }
 
-module _ (d : Device) (b : Book) (count i : ℕ) (e : seek (wrongAt d b) i (count - i) ≡ seek (wrongAt d b) 0 count) where
-  pub left-next : i < count → accepts d (item (b .items) i) ≡ true → seek (wrongAt d b) (i + 1) (count - (i + 1)) ≡ seek (wrongAt d b) 0 count
-  unfolding seek pick
-  left-next l h =
-      let s : count - i ≡ suc (count - (i + 1)) = omega arith in
-      rw add-one (rw (s, ap not h, add-one) at e)
+  module _ (a : AllowedBook b) (e : bytesOf b ≡ s) (at : ℕ) (w : Walking d s b at) where
+    pub stands : at < length s → ItemStands s b (w .number) at
+    stands h = one-more a e (w .known) (w .here) h
 
-  module _ (device : d ≡ deviceOf b) (all : count ≡ length (b .items)) where
-    pub none-wrong : count ≤ i → AllAccepted ≡ judgementOf b
-    unfolding wrongItem seek
-    none-wrong l =
-        let z : count - i ≡ 0 = omega arith in
-        let w : i ≡ wrongItem b = rw (z, device, all) at e in
-        sym (all-accepted b (omega arith))
+    pub at-next : (h : at < length s) (next : ℕ) → Begins s b (w .number + 1) next → accepts d (item (b .items) (w .number)) ≡ true → Walking d s b next
+    unfolding seek pick
+    at-next h next q f =
+        let l : length (b .items) - w .number ≡ suc (length (b .items) - (w .number + 1)) = omega (arith, stands h .known) in
+        record { number = w .number + 1; known = omega (arith, stands h .known); here = q; left = rw add-one (rw (l, ap not f, add-one) at (w .left)) }
 
-    pub found : {s : List ℕ} {at : ℕ} → ItemStands s b i at → accepts d (item (b .items) i) ≡ false → Wrong at NoReversePlan ≡ judgementOf b
-    unfolding wrongItem seek pick
-    found {s} {at} h f =
-        let l : count - i ≡ suc (count - (i + 1)) = omega (arith, h .known) in
-        let w : i ≡ wrongItem b = rw (l, ap not f, device, all) at e in
-        let here : accepts (deviceOf b) (item (b .items) (wrongItem b)) ≡ false = rw (← w, ← device) f in
-        ap (λ (p : ℕ). Wrong p NoReversePlan) (place-is h ∙ ap (placeOf b) w) ∙ sym (one-wrong b (omega (arith, h .known)) here)
+    module _ (device : d ≡ deviceOf b) where
+      pub none-wrong : length s ≤ at → AllAccepted ≡ judgementOf b
+      unfolding wrongItem seek
+      none-wrong h =
+          let all = all-passed a e (w .known) (w .here) h in
+          let z : length (b .items) - w .number ≡ 0 = omega arith in
+          let i : w .number ≡ wrongItem b = rw (z, device) at (w .left) in
+          sym (all-accepted b (omega arith))
+
+      pub found : (h : at < length s) → accepts d (item (b .items) (w .number)) ≡ false → Wrong at NoReversePlan ≡ judgementOf b
+      unfolding wrongItem seek pick
+      found h f =
+          let l : length (b .items) - w .number ≡ suc (length (b .items) - (w .number + 1)) = omega (arith, stands h .known) in
+          let i : w .number ≡ wrongItem b = rw (l, ap not f, device) at (w .left) in
+          let here : accepts (deviceOf b) (item (b .items) (wrongItem b)) ≡ false = rw (← i, ← device) f in
+          ap (λ (p : ℕ). Wrong p NoReversePlan) (place-is (stands h) ∙ ap (placeOf b) i) ∙ sym (one-wrong b (omega (arith, stands h .known)) here)

@@ -6,7 +6,7 @@ use native.Mathlib.Nat.{add-zero}
 use native.Mathlib.Omega.{arith}
 use lib.ListN.{length, getD, take, drop, length-take, length-drop}
 use lib.Seq.{getD-take, getD-drop, drop-drop}
-use Rattle.num.specs.Parts.{le, leAt}
+use Rattle.octets.specs.Parts.{le, leAt}
 use Rattle.reversal.specs.Reversal.{Item}
 use Rattle.book.specs.Buffers.{itemAt}
 use Rattle.checker.specs.Judged.{Judgeable}

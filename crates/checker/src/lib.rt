@@ -32,7 +32,7 @@ fn runs_back(set: StateSet, table: &[u64], n: u64, m: u64, commands: &[u8], goal
     if commands.len() == 0 {
         return set.is_only(goal);
     }
-    let command = num::byte_at(commands, 0);
+    let command = octets::byte_at(commands, 0);
     let next = set.sent(table, n, m, command);
     if !next.able {
         return false;
@@ -46,16 +46,16 @@ fn first_wrong(book: &[u8], table: &[u64], n: u64, m: u64) -> Judgement
     requires { ⌜ (n ≤ 64) × (m ≤ 32) × WellFormed (now book) ⌝ }
     ensures { λ r. ⌜ Judged (now (book .entry)) (tabled n m (now (table .entry))) r ⌝ }
 {
-    let places = items::places_from(book, items::first_item(book));
+    let mut at = items::first_item(book);
     let mut found = Judgement::AllAccepted;
-    'items: for i in 0..places.count {
-        let at = places.at[i] as usize;
+    'items: while at < book.len() {
         let item = items::item_at(book, at);
         for start in 0..n {
             if StateSet::of(item.psi).has(start) {
                 let mut set = StateSet::of(0).add(start);
                 for j in 0..item.k {
-                    set = set.after(table, n, m, num::byte_at(book, at + 6 + j));
+                    let command = octets::byte_at(&book[at + 6..at + 6 + item.k], j);
+                    set = set.after(table, n, m, command);
                 }
                 set = set.within(item.phi);
                 if !set.is_empty() {
@@ -67,6 +67,7 @@ fn first_wrong(book: &[u8], table: &[u64], n: u64, m: u64) -> Judgement
                 }
             }
         }
+        at = item.next;
     }
     found
 }

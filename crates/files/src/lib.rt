@@ -27,8 +27,8 @@ pub fn read_in(folder: &[u8], name: &[u8], buf: &mut [u8]) -> usize
         return 0;
     }
     let mut path = [0u8; 4096];
-    num::copy(folder_size, folder, 0, &mut path, 0);
-    num::put_le(1, 47, &mut path, folder_size);
-    num::copy(name_size, name, 0, &mut path, folder_size + 1);
+    octets::copy(folder_size, folder, 0, &mut path, 0);
+    octets::put_le(1, 47, &mut path, folder_size);
+    octets::copy(name_size, name, 0, &mut path, folder_size + 1);
     read_file(&path[..folder_size + 1 + name_size], buf)
 }

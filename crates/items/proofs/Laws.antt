@@ -1,31 +1,29 @@
 -- An item's record in a book's bytes: its fields, and the record after it. Assumes nothing.
 use mathlib.Core.Path.{_≡_, sym, ap, _∙_}
-use mathlib.Core.List.{List, _∷_, _++_, map, append-assoc}
+use mathlib.Core.List.{List, [], _∷_, _++_, map, append-assoc}
 use Prim.Native.Nat.{ℕ, _+_, _-_, _^_, _≤_, _<_}
-use native.Mathlib.Nat.{lt-of-lt-of-le}
 use native.Mathlib.Numerals.{add-one}
 use native.Mathlib.Omega.{arith}
-use lib.Dec.{ltb→lt}
-use lib.Pow.{pow-mono}
 use lib.ListN.{length, getD, take, drop, length-drop, length-append}
 use lib.Seq.{drop-cons, drop-drop, getD-drop, take-at, drop-at}
 use Rattle.base.specs.Sets.{NoBitFrom}
-use Rattle.base.specs.Masks.{clearFrom}
-use Rattle.base.proofs.Masks.{clear↔}
 use Rattle.base.proofs.Lists.{each-at}
 use Rattle.reversal.specs.Reversal.{Item, AllowedItem}
 use Rattle.reversal.specs.Chains.{absent, item}
-use Rattle.num.specs.Le.{bytesLe}
-use Rattle.num.specs.Parts.{le, leAt}
+use Rattle.octets.specs.Le.{bytesLe}
+use Rattle.octets.specs.Parts.{le, leAt}
+use Rattle.octets.proofs.Le.{length-bytesLe}
 use Rattle.book.specs.Book.{Book, deviceOf, frame, framed, itemRec}
+use Rattle.book.proofs.Fields.{mask-fits}
 use Rattle.book.proofs.Bodies.{first-eight, past-eight, item-length}
 use Rattle.book.proofs.Scanning.{length-frame}
 use Rattle.items.specs.declared.Place.{Place}
 use Rattle.items.specs.Items.{Begins, ItemStands, Fields, ItemAt}
 
-mask-small : (n w : ℕ) → n ≤ 64 → NoBitFrom n w → w < 256 ^ 8
-unfolding clearFrom
-mask-small n w h f = lt-of-lt-of-le (ltb→lt w (2 ^ n) (clear↔ n w .1 f)) (pow-mono h)
+both-masks : (phi psi : ℕ) (t : List ℕ) → take 16 (bytesLe 8 phi ++ (bytesLe 8 psi ++ t)) ≡ bytesLe 8 phi ++ bytesLe 8 psi
+both-masks phi psi t =
+    let l : length (bytesLe 8 phi ++ bytesLe 8 psi) ≡ 16 = omega (arith, length-append (bytesLe 8 phi) (bytesLe 8 psi), length-bytesLe 8 phi, length-bytesLe 8 psi) in
+    rw (← append-assoc (bytesLe 8 phi) (bytesLe 8 psi) t) (take-at (bytesLe 8 phi ++ bytesLe 8 psi) t 16 l)
 
 -- ---- item x and then t stand from `at` on
 module _ (s : List ℕ) (at : ℕ) (x : Item) (t : List ℕ) (e : drop at s ≡ frame (itemRec x) ++ t) where
@@ -36,6 +34,10 @@ module _ (s : List ℕ) (at : ℕ) (x : Item) (t : List ℕ) (e : drop at s ≡ 
   r-at : getD s (at + 5) 0 ≡ length (x .reverse)
   unfolding frame bytesLe
   r-at = rw (← getD-drop at s 5 0, e)
+
+  counts-at : take 2 (drop (at + 4) s) ≡ length (x .forward) ∷ length (x .reverse) ∷ []
+  unfolding frame bytesLe
+  counts-at = rw (← drop-drop 4 at s, e)
 
   abbrev tail : List ℕ
   tail = bytesLe 8 (x .phi) ++ (bytesLe 8 (x .psi) ++ t)
@@ -99,7 +101,7 @@ module _ (s : List ℕ) (at k r phi psi : ℕ) (ek : k ≡ getD s (at + 4) 0) (e
     masks = masks-at s at x t (stands h) k r hk hr
 
     small : (w : ℕ) → NoBitFrom (b .n) w → w < 256 ^ 8
-    small w f = mask-small (b .n) w (h .allowed .device .n-high) f
+    small w f = mask-fits (b .n) w (h .allowed .device .n-high) f
 
     fields : Fields s at place x
     fields =
@@ -108,8 +110,10 @@ module _ (s : List ℕ) (at k r phi psi : ℕ) (ek : k ≡ getD s (at + 4) 0) (e
           r-is = hr;
           phi-is = ep ∙ (ap (λ (l : List ℕ). le (take 8 l)) masks ∙ first-eight (x .phi) (bytesLe 8 (x .psi) ++ t) (small (x .phi) (allowed .phi-states)));
           psi-is = eq ∙ (ap (λ (l : List ℕ). le (take 8 l)) (psi-at s at x t (stands h) (at + 6 + k + r) masks) ∙ first-eight (x .psi) t (small (x .psi) (allowed .psi-states)));
+          counts-are = counts-at s at x t (stands h) ∙ rw (hk, hr);
           forward-is = ap (λ (l : List ℕ). take k l) (forward-at s at x t (stands h)) ∙ take-at (x .forward) (x .reverse ++ tail s at x t (stands h)) k (sym hk);
           reverse-is = ap (λ (l : List ℕ). take r l) (reverse-at s at x t (stands h) k hk) ∙ take-at (x .reverse) (tail s at x t (stands h)) r (sym hr);
+          masks-are = ap (take 16) masks ∙ both-masks (x .phi) (x .psi) t;
           within = omega (arith, inside s at x t (stands h), hk, hr);
         }
 

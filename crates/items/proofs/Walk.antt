@@ -1,5 +1,5 @@
 -- The ways to the first item and from item to item: what is left of a book's records stands where the walk is. Assumes nothing.
-use mathlib.Core.Path.{_≡_, refl, sym, ap, _∙_}
+use mathlib.Core.Path.{_≡_, refl, ap, _∙_}
 use mathlib.Core.Bool.{Bool, true, false}
 use mathlib.Core.List.{List, [], _∷_, _++_, map}
 use Prim.Native.Nat.{ℕ, suc, _+_, _-_, _≤_, _<_}
@@ -7,30 +7,30 @@ use native.Mathlib.Omega.{arith}
 use native.Mathlib.Decide.{decLt}
 use borrow.Author.Tests.{eqb-true, eqb-false}
 use lib.Dec.{eqb}
-use lib.ListN.{length, getD, set, take, drop, length-drop, length-append, drop-of-length-le}
+use lib.ListN.{length, getD, set, drop, length-drop, length-append, drop-of-length-le}
 use lib.Seq.{drop-drop, drop-cons, getD-set-same, getD-set-other}
 use Rattle.reversal.specs.Reversal.{Item}
 use Rattle.reversal.specs.Chains.{absent, item}
-use Rattle.num.specs.Le.{bytesLe}
-use Rattle.num.specs.Parts.{le, leAt}
+use Rattle.octets.specs.Le.{bytesLe}
+use Rattle.octets.specs.Parts.{le, leAt}
 use Rattle.book.specs.Book.{Move, Book, AllowedBook, Rec, frame, framed, moveRec, itemRec, bytesOf}
 use Rattle.book.proofs.Scanning.{length-frame}
 use Rattle.items.specs.Items.{Begins, ItemStands}
 
 -- ---- the kind of a record
 module _ (s : List ℕ) (at : ℕ) where
-  kind-at : (r : Rec) (t : List ℕ) → drop at s ≡ frame r ++ t → leAt 2 s (at + 2) ≡ le (bytesLe 2 (r .kind))
+  pub kind-at : (r : Rec) (t : List ℕ) → drop at s ≡ frame r ++ t → leAt 2 s (at + 2) ≡ le (bytesLe 2 (r .kind))
   unfolding frame bytesLe
   kind-at r t e = rw (← drop-drop 2 at s, e)
 
   no-kind : drop at s ≡ [] → leAt 2 s (at + 2) ≡ 0
   no-kind e = rw (← drop-drop 2 at s, e)
 
-  past-move : (x : Move) (t : List ℕ) → drop at s ≡ frame (moveRec x) ++ t → drop (at + 14) s ≡ t
+  pub past-move : (x : Move) (t : List ℕ) → drop at s ≡ frame (moveRec x) ++ t → drop (at + 14) s ≡ t
   unfolding frame bytesLe
   past-move x t e = rw (← drop-drop 14 at s, e)
 
-no-move : (items : List Item) (s : List ℕ) (at : ℕ) → drop at s ≡ framed (map itemRec items) → leAt 2 s (at + 2) ≡ 2 → ⊥
+pub no-move : (items : List Item) (s : List ℕ) (at : ℕ) → drop at s ≡ framed (map itemRec items) → leAt 2 s (at + 2) ≡ 2 → ⊥
 unfolding bytesLe
 no-move [] s at e k = omega (arith, no-kind s at e)
 no-move (x ∷ xs) s at e k = omega (arith, kind-at s at (itemRec x) (framed (map itemRec xs)) e)
@@ -71,7 +71,36 @@ module _ {s : List ℕ} {b : Book} {at : ℕ} (g : Before s b at) where
       go [] r = r
       go (x ∷ xs) r = absurd (k (kind-at s at (moveRec x) (framed (map moveRec xs ++ map itemRec (b .items))) r))
 
--- ---- from item to item: the places of the items passed
+-- ---- from item to item: item i stands where the walk is
+module _ {s : List ℕ} {b : Book} {i at : ℕ} (a : AllowedBook b) (e : bytesOf b ≡ s) (known : i ≤ length (b .items)) (here : Begins s b i at) where
+  -- where bytes are left there is an item, and where none are there is none
+  pub one-more : at < length s → ItemStands s b i at
+  one-more h = record { allowed = a; bytes = e; known = go (decLt i (length (b .items))); begins = here }
+    where
+      go : Dec (i < length (b .items)) → i < length (b .items)
+      go (yes l) = l
+      go (no l) =
+          let past : length (b .items) ≤ i = omega arith in
+          let none : drop i (b .items) ≡ [] = drop-of-length-le (b .items) past in
+          let f : length (drop at s) ≡ 0 = ap length here ∙ ap (λ (l : List Item). length (framed (map itemRec l))) none in
+          absurd (omega (arith, length-drop at s))
+
+  pub no-more : at < length s → 64 ≤ i → ⊥
+  no-more h l = omega (arith, a .few, one-more h .known)
+
+  pub all-passed : length s ≤ at → i ≡ length (b .items)
+  all-passed h = go (decLt i (length (b .items)))
+    where
+      go : Dec (i < length (b .items)) → i ≡ length (b .items)
+      go (no l) = omega arith
+      go (yes l) =
+          let x = item (b .items) i in
+          let t = framed (map itemRec (drop (suc i) (b .items))) in
+          let f : length (drop at s) ≡ length (frame (itemRec x) ++ t) =
+          ap length (here ∙ ap (λ (l : List Item). framed (map itemRec l)) (drop-cons (b .items) i absent l)) in
+          absurd (omega (arith, length-drop at s, length-append (frame (itemRec x)) t, length-frame (itemRec x)))
+
+-- the places of the items passed
 pub record Passing (s : List ℕ) (b : Book) (places : List ℕ) (count at : ℕ) : Type 0 where
   pub known : count ≤ length (b .items)
   pub here : Begins s b count at
@@ -81,37 +110,10 @@ pub at-start : {s : List ℕ} {b : Book} {from : ℕ} (places : List ℕ) → Be
 at-start places q = record { known = omega arith; here = q; before = λ i h. absurd (omega arith) }
 
 module _ {s : List ℕ} {b : Book} {places : List ℕ} {count at : ℕ} (a : AllowedBook b) (e : bytesOf b ≡ s) (p : Passing s b places count at) where
-  -- where bytes are left there is an item, and where none are there is none
-  pub one-more : at < length s → ItemStands s b count at
-  one-more h = record { allowed = a; bytes = e; known = go (decLt count (length (b .items))); begins = p .here }
-    where
-      go : Dec (count < length (b .items)) → count < length (b .items)
-      go (yes l) = l
-      go (no l) =
-          let past : length (b .items) ≤ count = omega arith in
-          let none : drop count (b .items) ≡ [] = drop-of-length-le (b .items) past in
-          let f : length (drop at s) ≡ 0 = ap length (p .here) ∙ ap (λ (l : List Item). length (framed (map itemRec l))) none in
-          absurd (omega (arith, length-drop at s))
-
-  pub no-more : at < length s → 64 ≤ count → ⊥
-  no-more h l = omega (arith, a .few, one-more h .known)
-
-  pub all-passed : length s ≤ at → count ≡ length (b .items)
-  all-passed h = go (decLt count (length (b .items)))
-    where
-      go : Dec (count < length (b .items)) → count ≡ length (b .items)
-      go (no l) = omega (arith, p .known)
-      go (yes l) =
-          let x = item (b .items) count in
-          let t = framed (map itemRec (drop (suc count) (b .items))) in
-          let f : length (drop at s) ≡ length (frame (itemRec x) ++ t) =
-          ap length (p .here ∙ ap (λ (l : List Item). framed (map itemRec l)) (drop-cons (b .items) count absent l)) in
-          absurd (omega (arith, length-drop at s, length-append (frame (itemRec x)) t, length-frame (itemRec x)))
-
   pub passed : at < length s → count < length places → (next : ℕ) → Begins s b (count + 1) next → Passing s b (set places count at) (count + 1) next
   passed h l next q =
       record {
-        known = omega (arith, one-more h .known);
+        known = omega (arith, one-more a e (p .known) (p .here) h .known);
         here = q;
         before = λ i m. one i m (eqb i count) refl;
       }
@@ -123,4 +125,4 @@ module _ {s : List ℕ} {b : Book} {places : List ℕ} {count at : ℕ} (a : All
           ap (λ (j : ℕ). drop j s) (getD-set-other places count i at 0 f) ∙ p .before i (omega arith)
 
   pub placed : length s ≤ at → (i : ℕ) → i < length (b .items) → ItemStands s b i (getD places i 0)
-  placed h i l = record { allowed = a; bytes = e; known = l; begins = p .before i (omega (arith, all-passed h)) }
+  placed h i l = record { allowed = a; bytes = e; known = l; begins = p .before i (omega (arith, all-passed a e (p .known) (p .here) h)) }

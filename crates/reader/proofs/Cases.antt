@@ -8,10 +8,10 @@ use lib.Seq.{take-take}
 use Rattle.base.specs.Lists.{Bytes}
 use Rattle.base.specs.Tests.{pick, both}
 use Rattle.base.specs.Compare.{less, same}
-use Rattle.num.specs.Le.{bytesLe}
+use Rattle.octets.specs.Le.{bytesLe}
 use Rattle.book.specs.Book.{Book, outcomeOf}
 use Rattle.book.specs.Lent.{slotsBytes}
-use Rattle.book.specs.Parse.{allBelow}
+use Rattle.book.specs.Limits.{allBelow}
 use Rattle.book.specs.Example.{bookQ, bytesQ, firstSlots}
 use Rattle.book.proofs.Fields.{all-on}
 use Rattle.book.proofs.Example.{bytes-bookQ, allowed-bookQ}

@@ -1,108 +1,190 @@
--- What the pass stores is the book's table and slots. Assumes nothing.
+-- What is stored is the book's table and slots: what is left of its moves and items gives the whole. Assumes nothing.
 use mathlib.Core.Path.{_≡_, refl, sym, ap, ap₂, _∙_}
 use mathlib.Core.List.{List, [], _∷_, _++_, map, append-assoc, append-nil}
-use Prim.Native.Nat.{ℕ, _+_, _-_, _*_, _<_, min}
+use Prim.Native.Nat.{ℕ, _+_, _-_, _*_, _^_, _≤_, _<_, min}
+use native.Mathlib.Numerals.{add-one}
 use native.Mathlib.Omega.{arith}
-use lib.ListN.{length, take, drop, replicate, length-append}
-use lib.Seq.{sets, take-at, drop-at, take-all, drop-drop}
+use lib.ListN.{length, getD, drop, replicate, drop-of-length-le}
+use lib.Seq.{sets, drop-drop, drop-cons, getD-drop}
 use Rattle.base.specs.Lists.{Each}
-use Rattle.base.specs.Tests.{pick}
-use Rattle.base.specs.Compare.{same}
-use Rattle.num.specs.Le.{bytesLe}
-use Rattle.num.specs.Parts.{piece}
-use Rattle.num.proofs.Le.{length-bytesLe}
-use Rattle.num.proofs.Put.{piece-take}
-use Rattle.reversal.specs.Device.{Device}
+use Rattle.base.proofs.Lists.{each-at}
+use Rattle.octets.specs.Le.{bytesLe}
+use Rattle.octets.specs.Parts.{leAt, piece}
+use Rattle.octets.proofs.Put.{sets-append, piece-take}
 use Rattle.reversal.specs.Reversal.{Item, AllowedItem}
+use Rattle.reversal.specs.Chains.{absent, item}
 use Rattle.book.specs.declared.State.{State}
 use Rattle.book.specs.declared.Scan.the-variants.{Read, Fault}
-use Rattle.book.specs.Book.{Book, Move, AllowedBook, deviceOf, moveRec, itemRec, recordsOf, bytesOf}
+use Rattle.book.specs.Book.{Move, Book, AllowedMove, AllowedBook, deviceOf, frame, framed, moveRec, itemRec, recordsOf, bytesOf}
 use Rattle.book.specs.Parse.{Row, cutAfter, cut, movesIn, itemsIn, parse, scan, atStart}
 use Rattle.book.specs.Parse.Row.{End}
 use Rattle.book.specs.Parse.Parsed.{Ok, Refused}
 use Rattle.book.specs.Lent.{padded, slotOf, slotsBytes}
 use Rattle.book.specs.Buffers.{zeroed, filled, tableOf, slotsOf}
-use Rattle.book.proofs.Cut.{onto, onto-append}
+use Rattle.book.proofs.Fields.{mask-fits}
+use Rattle.book.proofs.Bodies.{first-eight}
+use Rattle.book.proofs.Cut.{onto}
 use Rattle.book.proofs.Scanning.{cut-book, stateOf}
 use Rattle.book.proofs.Reading.{scan-whole, parse-fine}
+use Rattle.book.proofs.Slots.{length-slot}
+use Rattle.items.specs.declared.Place.{Place}
+use Rattle.items.specs.Items.{Begins, ItemStands, Fields}
+use Rattle.items.proofs.Walk.{kind-at, past-move, no-move, one-more, all-passed}
 use Rattle.reader.specs.Reads.{done}
-use Rattle.reader.specs.Filling.{slotHead, slotTail, rawSlot, rawSlots}
+use Rattle.reader.specs.Filling.{moveStored, slotHead, slotTail, slotAt}
 
--- ---- the slot of an item's body
-module _ (k r : ℕ) (f b m : List ℕ) where
-  abbrev body : List ℕ
-  body = k ∷ r ∷ (f ++ (b ++ m))
+-- ---- the device
+module _ (s : List ℕ) (b : Book) (e : bytesOf b ≡ s) where
+  pub n-at : getD s 4 0 ≡ b .n
+  unfolding frame bytesLe
+  n-at = rw (← e)
 
-  size : length body ≡ 2 + length f + length b + length m
-  size = omega (arith, length-append f (b ++ m), length-append b m)
+  pub m-at : getD s 5 0 ≡ b .m
+  unfolding frame bytesLe
+  m-at = rw (← e)
 
-  past-counts : (x : ℕ) → drop (2 + x) body ≡ drop x (f ++ (b ++ m))
-  past-counts x = sym (drop-drop x 2 body)
+  moves-at : drop 6 s ≡ framed (map moveRec (b .moves) ++ map itemRec (b .items))
+  unfolding frame bytesLe
+  moves-at = rw (← e)
 
-  head-is : slotHead body (length f) ≡ k ∷ r ∷ padded f
-  unfolding slotHead piece
-  head-is =
-      ap (λ (t : List ℕ). k ∷ r ∷ (t ++ replicate (8 - length f) 0))
-      (piece-take (length f) body 2 (omega (arith, size)) ∙ take-at f (b ++ m) (length f) refl)
+-- ---- a move
+module _ (s : List ℕ) (at : ℕ) (x : Move) (t : List ℕ) (e : drop at s ≡ frame (moveRec x) ++ t) where
+  state-at : getD s (at + 4) 0 ≡ x .state
+  unfolding frame bytesLe
+  state-at = rw (← getD-drop at s 4 0, e)
 
-  tail-is : length m ≡ 16 → slotTail body (length f) (length b) ≡ padded b ++ m
-  unfolding slotTail
-  tail-is h = ap₂ (λ (x y : List ℕ). x ++ (replicate (8 - length b) 0 ++ y)) back masks ∙ sym (append-assoc b (replicate (8 - length b) 0) m)
+  command-at : getD s (at + 5) 0 ≡ x .command
+  unfolding frame bytesLe
+  command-at = rw (← getD-drop at s 5 0, e)
+
+  mask-at : x .mask < 256 ^ 8 → leAt 8 s (at + 6) ≡ x .mask
+  unfolding frame bytesLe
+  mask-at h = rw (← drop-drop 6 at s, e) (first-eight (x .mask) t h)
+
+-- ---- the pass over the moves
+pub record Entering (s : List ℕ) (b : Book) (whole : List ℕ) (at : ℕ) (table : List ℕ) : Type 0 where
+  pub left : List Move
+  pub allowed : Each (AllowedMove (b .n) (b .m)) left
+  pub rest : drop at s ≡ framed (map moveRec left ++ map itemRec (b .items))
+  pub gives : filled (b .m) left table ≡ whole
+
+pub entering : (s : List ℕ) (b : Book) (t : List ℕ) → AllowedBook b → bytesOf b ≡ s → Entering s b (filled (b .m) (b .moves) t) 6 t
+entering s b t a e = record { left = b .moves; allowed = a .each-move; rest = moves-at s b e; gives = refl }
+
+pub table-is : (b : Book) (n m : ℕ) (t t′ : List ℕ) → n ≡ b .n → m ≡ b .m → t′ ≡ zeroed (n * m) t → filled (b .m) (b .moves) t′ ≡ tableOf b t
+table-is b n m t t′ p q z = ap (filled (b .m) (b .moves)) (z ∙ ap₂ (λ (x y : ℕ). zeroed (x * y) t) p q)
+
+module _ {s : List ℕ} {b : Book} {whole : List ℕ} {at : ℕ} {table : List ℕ} (a : AllowedBook b) (g : Entering s b whole at table) where
+  pub entered : (m : ℕ) (table′ : List ℕ) → m ≡ b .m → leAt 2 s (at + 2) ≡ 2 → table′ ≡ moveStored m s at table → Entering s b whole (at + 14) table′
+  unfolding moveStored filled
+  entered m table′ h k e = go (g .left) (g .allowed) (g .rest) (g .gives)
     where
-      back : piece (length b) body (2 + length f) ≡ b
-      back =
-          piece-take (length b) body (2 + length f) (omega (arith, size))
-          ∙ ap (take (length b)) (past-counts (length f) ∙ drop-at f (b ++ m) (length f) refl)
-          ∙ take-at b m (length b) refl
+      go : (left : List Move) → Each (AllowedMove (b .n) (b .m)) left → drop at s ≡ framed (map moveRec left ++ map itemRec (b .items))
+          → filled (b .m) left table ≡ whole → Entering s b whole (at + 14) table′
+      go [] al r w = absurd (no-move (b .items) s at r k)
+      go (x ∷ xs) al r w =
+          let t = framed (map moveRec xs ++ map itemRec (b .items)) in
+          record {
+            left = xs;
+            allowed = al .1;
+            rest = past-move s at x t r;
+            gives =
+                rw (e, h, state-at s at x t r, command-at s at x t r, mask-at s at x t r (mask-fits (b .n) (x .mask) (a .device .n-high) (al .0 .states))) w;
+          }
 
-      masks : piece 16 body (2 + length f + length b) ≡ m
-      masks =
-          piece-take 16 body (2 + length f + length b) (omega (arith, size))
-          ∙ ap (take 16)
-          (sym (drop-drop (length b) (2 + length f) body) ∙ ap (drop (length b)) (past-counts (length f) ∙ drop-at f (b ++ m) (length f) refl)
-          ∙ drop-at b m (length b) refl)
-          ∙ take-all 16 m (omega arith)
+  module _ (k : leAt 2 s (at + 2) ≡ 2 → ⊥) where
+    none-left : g .left ≡ []
+    unfolding bytesLe
+    none-left = go (g .left) (g .rest)
+      where
+        go : (left : List Move) → drop at s ≡ framed (map moveRec left ++ map itemRec (b .items)) → left ≡ []
+        go [] r = refl
+        go (x ∷ xs) r = absurd (k (kind-at s at (moveRec x) (framed (map moveRec xs ++ map itemRec (b .items))) r))
 
-slot-is : (d : Device) (x : Item) → AllowedItem d x → rawSlot (itemRec x .body) ≡ slotOf x
-unfolding rawSlot
-slot-is d x a =
-    let f = x .forward in
-    let b = x .reverse in
-    let m = bytesLe 8 (x .phi) ++ bytesLe 8 (x .psi) in
-    let k : min (length f) 8 ≡ length f = omega (arith, a .most) in
-    let r : min (length b) 8 ≡ length b = omega (arith, a .reverse-most) in
-    let l : length m ≡ 16 = omega (arith, length-append (bytesLe 8 (x .phi)) (bytesLe 8 (x .psi)), length-bytesLe 8 (x .phi), length-bytesLe 8 (x .psi)) in
-    rw (k, r) (ap₂ _++_ (head-is (length f) (length b) f b m) (tail-is (length f) (length b) f b m l))
+    pub all-entered : table ≡ whole
+    unfolding filled
+    all-entered = rw none-left at (g .gives)
 
--- ---- the rows of a book
-slots-are : (d : Device) (xs : List Item) → Each (AllowedItem d) xs → rawSlots (onto (map itemRec xs) End) ≡ slotsBytes xs
-unfolding rawSlots slotsBytes same pick
-slots-are d [] a = refl
-slots-are d (x ∷ xs) a = ap₂ _++_ (slot-is d x (a .0)) (slots-are d xs (a .1))
+    pub at-items : Begins s b 0 at
+    at-items = rw none-left at (g .rest)
 
-moves-none : (ms : List Move) (row : Row) → rawSlots (onto (map moveRec ms) row) ≡ rawSlots row
-unfolding rawSlots same pick
-moves-none [] row = refl
-moves-none (x ∷ ms) row = moves-none ms row
+-- ---- the slot of an item
+module _ (s : List ℕ) (at : ℕ) (p : Place) (x : Item) (f : Fields s at p x) where
+  counts : piece 2 s (at + 4) ≡ p .k ∷ p .r ∷ []
+  counts = piece-take 2 s (at + 4) (omega (arith, f .within)) ∙ f .counts-are
 
-raw-slots : (b : Book) → AllowedBook b → rawSlots (onto (recordsOf b) End) ≡ slotsBytes (b .items)
-unfolding rawSlots same pick
-raw-slots b a =
-    ap rawSlots (onto-append (map moveRec (b .moves)) (map itemRec (b .items)) End)
-    ∙ moves-none (b .moves) (onto (map itemRec (b .items)) End)
-    ∙ slots-are (deviceOf b) (b .items) (a .each-item)
+  forward : piece (p .k) s (at + 6) ≡ x .forward
+  forward = piece-take (p .k) s (at + 6) (omega (arith, f .within)) ∙ f .forward-is
 
--- a book that is read: its parts stand in the row, and the pass stores its slots
+  reverse : piece (p .r) s (at + 6 + p .k) ≡ x .reverse
+  reverse = piece-take (p .r) s (at + 6 + p .k) (omega (arith, f .within)) ∙ f .reverse-is
+
+  masks : piece 16 s (at + 6 + p .k + p .r) ≡ bytesLe 8 (x .phi) ++ bytesLe 8 (x .psi)
+  masks = piece-take 16 s (at + 6 + p .k + p .r) (omega (arith, f .within)) ∙ f .masks-are
+
+  head-is : slotHead s at (p .k) ≡ length (x .forward) ∷ length (x .reverse) ∷ padded (x .forward)
+  unfolding slotHead
+  head-is = rw (counts, forward, f .k-is, f .r-is)
+
+  tail-is : slotTail s at (p .k) (p .r) ≡ padded (x .reverse) ++ (bytesLe 8 (x .phi) ++ bytesLe 8 (x .psi))
+  unfolding slotTail
+  tail-is =
+      rw (reverse, masks, f .r-is)
+      (sym (append-assoc (x .reverse) (replicate (8 - length (x .reverse)) 0) (bytesLe 8 (x .phi) ++ bytesLe 8 (x .psi))))
+
+  slot-is : length (x .forward) ≤ 8 → length (x .reverse) ≤ 8 → slotAt s at (p .k) (p .r) ≡ slotOf x
+  unfolding slotAt
+  slot-is h g =
+      let k : min (p .k) 8 ≡ p .k = omega (arith, f .k-is) in
+      let r : min (p .r) 8 ≡ p .r = omega (arith, f .r-is) in
+      rw (k, r) (ap₂ _++_ head-is tail-is)
+
+-- ---- the pass over the items
+pub record Slotting (s : List ℕ) (b : Book) (whole : List ℕ) (at i : ℕ) (slots : List ℕ) : Type 0 where
+  pub known : i ≤ length (b .items)
+  pub here : Begins s b i at
+  pub gives : sets slots (34 * i) (slotsBytes (drop i (b .items))) ≡ whole
+
+pub slotting : (s : List ℕ) (b : Book) (first : ℕ) (slots : List ℕ) → Begins s b 0 first → Slotting s b (slotsOf b slots) first 0 slots
+slotting s b first slots q = record { known = omega arith; here = q; gives = refl }
+
+module _ {s : List ℕ} {b : Book} {whole : List ℕ} {at i : ℕ} {slots : List ℕ} (a : AllowedBook b) (e : bytesOf b ≡ s) (g : Slotting s b whole at i slots) where
+  pub stands : at < length s → ItemStands s b i at
+  stands h = one-more a e (g .known) (g .here) h
+
+  pub slotted : (h : at < length s) (p : Place) → Fields s at p (item (b .items) i) → Begins s b (i + 1) (p .next) → (slots′ : List ℕ)
+      → slots′ ≡ sets slots (34 * i) (slotAt s at (p .k) (p .r)) → Slotting s b whole (p .next) (i + 1) slots′
+  unfolding slotsBytes
+  slotted h p f next slots′ q =
+      let x = item (b .items) i in
+      let l = stands h .known in
+      let al : AllowedItem (deviceOf b) x = each-at (AllowedItem (deviceOf b)) (b .items) (a .each-item) i absent l in
+      let rest = slotsBytes (drop (i + 1) (b .items)) in
+      let cons : drop i (b .items) ≡ x ∷ drop (i + 1) (b .items) = rw add-one (drop-cons (b .items) i absent l) in
+      record {
+        known = omega arith;
+        here = next;
+        gives =
+            ap (λ (d : List ℕ). sets d (34 * (i + 1)) rest) (q ∙ ap (sets slots (34 * i)) (slot-is s at p x f (al .most) (al .reverse-most)))
+            ∙ sets-append slots (34 * i) (34 * (i + 1)) (slotOf x) rest (omega (arith, length-slot (deviceOf b) x al))
+            ∙ ap (λ (xs : List Item). sets slots (34 * i) (slotsBytes xs)) (sym cons)
+            ∙ g .gives;
+      }
+
+  pub all-slotted : length s ≤ at → slots ≡ whole
+  unfolding slotsBytes
+  all-slotted h =
+      let past : length (b .items) ≤ i = omega (arith, all-passed a e (g .known) (g .here) h) in
+      let none : drop i (b .items) ≡ [] = drop-of-length-le (b .items) past in
+      rw none at (g .gives)
+
+-- ---- a book that is read
 pub record Found (s : List ℕ) (st : State) : Type 0 where
   pub book : Book
   pub parsed : parse s ≡ Ok book
   pub allowed : AllowedBook book
-  pub n : st .n ≡ book .n
-  pub m : st .m ≡ book .m
-  pub count : st .items ≡ length (book .items)
-  pub moves : movesIn (cut s) ≡ book .moves
-  pub items : itemsIn (cut s) ≡ book .items
-  pub slots : rawSlots (cut s) ≡ slotsBytes (book .items)
+  pub bytes : bytesOf book ≡ s
+  pub result : record { code = 0; place = 0; n = st .n; m = st .m; items = st .items } ≡ done book
 
 pub found : (s : List ℕ) (st : State) → Each (λ x. x < 256) s → scan (cut s) 0 atStart ≡ Read st → Found s st
 unfolding parse cutAfter
@@ -110,34 +192,21 @@ found s st b e =
     let x : Book = record { n = st .n; m = st .m; moves = movesIn (cut s); items = itemsIn (cut s) } in
     let p : parse s ≡ Ok x = rw e in
     let (a, same) = parse-fine s x b p in
-    let row : cut s ≡ onto (recordsOf x) End = sym (ap cut same) ∙ whole x a in
     record {
       book = x;
       parsed = p;
       allowed = a;
-      n = refl;
-      m = refl;
-      count = count-is x (sym e ∙ ap (λ (r : Row). scan r 0 atStart) row ∙ scan-whole x a);
-      moves = refl;
-      items = refl;
-      slots = ap rawSlots row ∙ raw-slots x a;
+      bytes = same;
+      result = rw (count-is x (sym e ∙ whole x a same));
     }
   where
-    whole : (x : Book) → AllowedBook x → cut (bytesOf x) ≡ onto (recordsOf x) End
-    whole x a = ap cut (sym (append-nil (bytesOf x))) ∙ cut-book x [] a
+    whole : (x : Book) → AllowedBook x → bytesOf x ≡ s → scan (cut s) 0 atStart ≡ Read (stateOf x)
+    whole x a same =
+        let row : cut (bytesOf x) ≡ onto (recordsOf x) End = ap cut (sym (append-nil (bytesOf x))) ∙ cut-book x [] a in
+        ap (λ (r : Row). scan r 0 atStart) (sym (ap cut same) ∙ row) ∙ scan-whole x a
 
     count-is : (x : Book) → Read st ≡ Read (stateOf x) → st .items ≡ length (x .items)
     count-is x q = let y : st ≡ stateOf x = cc in ap (λ (z : State). z .items) y
-
-module _ {s : List ℕ} {st : State} (f : Found s st) where
-  pub result-is : record { code = 0; place = 0; n = st .n; m = st .m; items = st .items } ≡ done (f .book)
-  result-is = rw (f .n, f .m, f .count)
-
-  pub table-is : (t t′ t″ : List ℕ) → t′ ≡ zeroed (st .n * st .m) t → t″ ≡ filled (st .m) (movesIn (cut s)) t′ → t″ ≡ tableOf (f .book) t
-  table-is t t′ t″ a b = b ∙ rw (a, f .moves, f .n, f .m)
-
-  pub slots-is : (d d′ : List ℕ) → d′ ≡ sets d 0 (rawSlots (cut s)) → d′ ≡ slotsOf (f .book) d
-  slots-is d d′ e = e ∙ ap (λ (x : List ℕ). sets d 0 x) (f .slots)
 
 -- a book that is refused
 pub refused : (s : List ℕ) (code place : ℕ) → scan (cut s) 0 atStart ≡ Fault code place → parse s ≡ Refused code place

@@ -11,14 +11,15 @@ use lib.ListN.{length, getD, take, drop, drop-of-length-le}
 use lib.Seq.{drop-cons, drop-drop}
 use Rattle.base.specs.Tests.{pick}
 use Rattle.base.specs.Compare.{less}
-use Rattle.num.specs.Parts.{le, leAt}
-use Rattle.book.specs.Parse.{allBelow, moveOf, itemOf}
+use Rattle.octets.specs.Parts.{le, leAt}
+use Rattle.book.specs.Parse.{moveOf, itemOf}
+use Rattle.book.specs.Limits.{allBelow}
 use Rattle.reader.specs.Judged.{Counted, moved}
 
 -- a move's index is small
-pub index-small : (state m command : ℕ) → state < 256 → m ≤ 32 → command < 256 → (state * m ≤ 8160) × (state * m + command < 8416)
+pub index-small : (state m command : ℕ) → state < 256 → m < 256 → command < 256 → (state * m ≤ 65025) × (state * m + command < 65281)
 index-small state m command hs hm hc =
-    let l : state * m ≤ 255 * 32 = mul-le-mul {n₂ = 255} (omega arith) hm in (omega arith, omega arith)
+    let l : state * m ≤ 255 * 255 = mul-le-mul {n₂ = 255} {m₂ = 255} (omega arith) (omega arith) in (omega arith, omega arith)
 
 -- the move in a body
 pub moved-is : (body : List ℕ) (state command mask : ℕ) → state ≡ getD body 0 0 → command ≡ getD body 1 0 → mask ≡ leAt 8 body 2

@@ -1,42 +1,35 @@
--- The slots and the table as the code fills them, record by record. proofs/Filling ties them to book's slotsOf and tableOf. Assumes nothing: these are definitions.
+-- The table and the slots as the code fills them from the bytes, and what they hold for every allowed book whose bytes these are.
+-- Assumes nothing: these are definitions.
 use mathlib.Core.Path.{_≡_}
-use mathlib.Core.List.{List, [], _++_}
+use mathlib.Core.List.{List, _++_}
 use Prim.Native.Nat.{ℕ, _+_, _-_, _*_, min}
 use lib.ListN.{getD, set, replicate}
-use lib.Seq.{sets}
-use Rattle.base.specs.Tests.{pick}
-use Rattle.base.specs.Compare.{same}
-use Rattle.num.specs.Parts.{piece, leAt}
-use Rattle.book.specs.Parse.{Row, cut, movesIn}
-use Rattle.book.specs.Parse.Row.{End, Torn, More}
-use Rattle.book.specs.Buffers.{filled}
+use Rattle.octets.specs.Parts.{piece, leAt}
+use Rattle.book.specs.Book.{Book, AllowedBook, bytesOf}
+use Rattle.book.specs.Buffers.{tableOf, slotsOf}
+use Rattle.items.specs.Items.{Begins}
 
--- the counts and k forward commands, with zeros behind them
-unfoldable pub slotHead : List ℕ → ℕ → List ℕ
-slotHead body k = piece 2 body 0 ++ (piece k body 2 ++ replicate (8 - k) 0)
+-- the table after the move whose record begins at `at`
+unfoldable pub moveStored : ℕ → List ℕ → ℕ → List ℕ → List ℕ
+moveStored m s at table = set table (getD s (at + 4) 0 * m + getD s (at + 5) 0) (leAt 8 s (at + 6))
+
+-- of the item whose record begins at `at`: the counts and k forward commands, with zeros behind them
+unfoldable pub slotHead : List ℕ → ℕ → ℕ → List ℕ
+slotHead s at k = piece 2 s (at + 4) ++ (piece k s (at + 6) ++ replicate (8 - k) 0)
 
 -- r reverse commands, with zeros behind them, and the masks
-unfoldable pub slotTail : List ℕ → ℕ → ℕ → List ℕ
-slotTail body k r = piece r body (2 + k) ++ (replicate (8 - r) 0 ++ piece 16 body (2 + k + r))
+unfoldable pub slotTail : List ℕ → ℕ → ℕ → ℕ → List ℕ
+slotTail s at k r = piece r s (at + 6 + k) ++ (replicate (8 - r) 0 ++ piece 16 s (at + 6 + k + r))
 
--- the slot of an item's body
-unfoldable pub rawSlot : List ℕ → List ℕ
-rawSlot body = slotHead body (min (getD body 0 0) 8) ++ slotTail body (min (getD body 0 0) 8) (min (getD body 1 0) 8)
+-- its slot, at most 8 commands each way
+unfoldable pub slotAt : List ℕ → ℕ → ℕ → ℕ → List ℕ
+slotAt s at k r = slotHead s at (min k 8) ++ slotTail s at (min k 8) (min r 8)
 
--- the slots of the items in a row
-unfoldable pub rawSlots : Row → List ℕ
-rawSlots End = []
-rawSlots (Torn t) = []
-rawSlots (More r row) = pick (same (r .kind) 3) (rawSlot (r .body) ++ rawSlots row) (rawSlots row)
+-- the contract of `fill_table`: bytes s, the table before and after, and where the first item begins
+pub record TableFilled (s table table′ : List ℕ) (r : ℕ) : Type 0 where
+  pub entries : (b : Book) → AllowedBook b → bytesOf b ≡ s → table′ ≡ tableOf b table
+  pub begins : (b : Book) → AllowedBook b → bytesOf b ≡ s → Begins s b 0 r
 
--- the table and the slots after one record
-unfoldable pub moveStored : ℕ → ℕ → List ℕ → List ℕ → List ℕ
-moveStored m kind body table = pick (same kind 2) (set table (getD body 0 0 * m + getD body 1 0) (leAt 8 body 2)) table
-
-unfoldable pub slotStored : ℕ → ℕ → List ℕ → List ℕ → List ℕ
-slotStored i kind body slots = pick (same kind 3) (sets slots (34 * i) (rawSlot body)) slots
-
--- and after all records
-pub record Stored (s : List ℕ) (m : ℕ) (table slots table′ slots′ : List ℕ) : Type 0 where
-  pub moves : table′ ≡ filled m (movesIn (cut s)) table
-  pub items : slots′ ≡ sets slots 0 (rawSlots (cut s))
+-- the contract of `fill_slots`: bytes s whose first item begins at `first`, the slots before and after
+pub record SlotsFilled (s : List ℕ) (first : ℕ) (slots slots′ : List ℕ) : Type 0 where
+  pub items : (b : Book) → AllowedBook b → bytesOf b ≡ s → Begins s b 0 first → slots′ ≡ slotsOf b slots

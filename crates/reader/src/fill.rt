@@ -1,15 +1,10 @@
-// The pass over the records that fills the table and the slots.
-use crate::scan;
-use crate::scan::Head;
+// Filling one entry of the table and one slot from a book's bytes.
 ghost use mathlib.Core.Path.{_≡_};
-ghost use Prim.Native.Nat.{_+_, _*_, _≤_, _<_, min};
+ghost use Prim.Native.Nat.{_+_, _≤_, _<_, min};
 ghost use lib.ListN.{length, set};
 ghost use lib.Seq.{sets};
-ghost use Rattle.base.specs.Compare.{same};
-ghost use Rattle.base.specs.Tests.{pick};
-ghost use Rattle.book.specs.Parse.{cut, itemsIn};
 ghost use Rattle.book.specs.Buffers.{zeroed};
-ghost use Rattle.reader.specs.Filling.{slotHead, slotTail, rawSlot, moveStored, slotStored, Stored};
+ghost use Rattle.reader.specs.Filling.{slotHead, slotTail, slotAt, moveStored};
 
 // Stores v at i, where there is an i.
 fn store(table: &mut [u64], i: usize, v: u64)
@@ -34,91 +29,51 @@ pub(crate) fn clear(table: &mut [u64], n: usize)
     }
 }
 
+// The move whose record begins at a place, in the table.
+pub(crate) fn put_move(book: &[u8], at: usize, m: u64, table: &mut [u64])
+    requires { ⌜ (at < length (now book)) × (m < 256) ⌝ }
+    ensures { λ _. ⌜ now (table .exit) ≡ moveStored m (now (book .entry)) at (now (table .entry)) ⌝ }
+{
+    let state = octets::byte_at(book, at + 4);
+    let command = octets::byte_at(book, at + 5);
+    let mask = octets::u64_at(book, at + 6);
+    store(table, (state * m + command) as usize, mask);
+}
+
 // A count of commands, of which a slot has room for 8.
-fn at_most_8(x: u64) -> usize
+fn at_most_8(x: usize) -> usize
     ensures { λ r. ⌜ (r ≡ min x 8) × (r ≤ 8) ⌝ }
 {
-    if x < 8 { x as usize } else { 8 }
+    if x < 8 { x } else { 8 }
 }
 
-// The counts and the forward commands of an item's body, as a slot has them, from q on.
-fn put_head(body: &[u8], k: usize, slots: &mut [u8], q: usize)
-    requires { ⌜ (k ≤ 8) × (q + 34 ≤ 2176) ⌝ }
-    ensures { λ _. ⌜ now (slots .exit) ≡ sets (now (slots .entry)) q (slotHead (now (body .entry)) k) ⌝ }
+// The counts and the forward commands of the item whose record begins at a place, as a slot has them, from q on.
+fn put_head(book: &[u8], at: usize, k: usize, slots: &mut [u8], q: usize)
+    requires { ⌜ (at < length (now book)) × (k ≤ 8) × (q + 34 ≤ 2176) ⌝ }
+    ensures { λ _. ⌜ now (slots .exit) ≡ sets (now (slots .entry)) q (slotHead (now (book .entry)) at k) ⌝ }
 {
-    num::copy(2, body, 0, slots, q);
-    num::copy(k, body, 2, slots, q + 2);
-    num::put_le(8 - k, 0, slots, q + 2 + k);
+    octets::copy(2, book, at + 4, slots, q);
+    octets::copy(k, book, at + 6, slots, q + 2);
+    octets::put_le(8 - k, 0, slots, q + 2 + k);
 }
 
-// The reverse commands and the masks of an item's body, as a slot has them, from q on.
-fn put_tail(body: &[u8], k: usize, r: usize, slots: &mut [u8], q: usize)
-    requires { ⌜ (k ≤ 8) × (r ≤ 8) × (q + 24 ≤ 2176) ⌝ }
-    ensures { λ _. ⌜ now (slots .exit) ≡ sets (now (slots .entry)) q (slotTail (now (body .entry)) k r) ⌝ }
+// Its reverse commands and masks.
+fn put_tail(book: &[u8], at: usize, k: usize, r: usize, slots: &mut [u8], q: usize)
+    requires { ⌜ (at < length (now book)) × (k ≤ 8) × (r ≤ 8) × (q + 24 ≤ 2176) ⌝ }
+    ensures { λ _. ⌜ now (slots .exit) ≡ sets (now (slots .entry)) q (slotTail (now (book .entry)) at k r) ⌝ }
 {
-    num::copy(r, body, 2 + k, slots, q);
-    num::put_le(8 - r, 0, slots, q + r);
-    num::copy(16, body, 2 + k + r, slots, q + 8);
+    octets::copy(r, book, at + 6 + k, slots, q);
+    octets::put_le(8 - r, 0, slots, q + r);
+    octets::copy(16, book, at + 6 + k + r, slots, q + 8);
 }
 
-// The slot of an item's body, from q on.
-fn put_slot(body: &[u8], slots: &mut [u8], q: usize)
-    requires { ⌜ q + 34 ≤ 2176 ⌝ }
-    ensures { λ _. ⌜ now (slots .exit) ≡ sets (now (slots .entry)) q (rawSlot (now (body .entry))) ⌝ }
+// Its slot, where k and r are its counts.
+pub(crate) fn put_slot(book: &[u8], at: usize, k: usize, r: usize, slots: &mut [u8], q: usize)
+    requires { ⌜ (at < length (now book)) × (q + 34 ≤ 2176) ⌝ }
+    ensures { λ _. ⌜ now (slots .exit) ≡ sets (now (slots .entry)) q (slotAt (now (book .entry)) at k r) ⌝ }
 {
-    let k = at_most_8(num::byte_at(body, 0));
-    let r = at_most_8(num::byte_at(body, 1));
-    put_head(body, k, slots, q);
-    put_tail(body, k, r, slots, q + 10);
-}
-
-// The table after one record.
-fn put_move(kind: u64, body: &[u8], m: u64, table: &mut [u64])
-    requires { ⌜ m ≤ 32 ⌝ }
-    ensures { λ _. ⌜ now (table .exit) ≡ moveStored m kind (now (body .entry)) (now (table .entry)) ⌝ }
-{
-    if kind == 2 {
-        let state = num::byte_at(body, 0);
-        let command = num::byte_at(body, 1);
-        let mask = num::u64_at(body, 2);
-        store(table, (state * m + command) as usize, mask);
-    }
-}
-
-// The slots after one record; the number of items with it.
-fn put_item(kind: u64, body: &[u8], i: usize, slots: &mut [u8]) -> usize
-    requires { ⌜ (kind ≡ 3 → i < 64) × (i ≤ 64) ⌝ }
-    ensures { λ r. ⌜ now (slots .exit) ≡ slotStored i kind (now (body .entry)) (now (slots .entry)) ⌝ }
-    ensures { λ r. ⌜ r ≡ pick (same kind 3) (i + 1) i ⌝ }
-{
-    if kind == 3 {
-        put_slot(body, slots, 34 * i);
-        return i + 1;
-    }
-    i
-}
-
-// The table and the slots after all records.
-pub(crate) fn fill(s: &[u8], m: u64, table: &mut [u64], slots: &mut [u8])
-    requires { ⌜ (m ≤ 32) × (length (itemsIn (cut (now s))) ≤ 64) ⌝ }
-    ensures { λ _. ⌜ Stored (now (s .entry)) m (now (table .entry)) (now (slots .entry)) (now (table .exit)) (now (slots .exit)) ⌝ }
-{
-    let mut at: usize = 0;
-    let mut i: usize = 0;
-    loop {
-        let head = scan::head_at(s, at);
-        match head {
-            Head::Over => {
-                return;
-            }
-            Head::Short => {
-                return;
-            }
-            Head::Whole(len, kind) => {
-                put_move(kind, &s[at + 4..at + 4 + len], m, table);
-                i = put_item(kind, &s[at + 4..at + 4 + len], i, slots);
-                at = at + 4 + len;
-            }
-        }
-    }
+    let forward = at_most_8(k);
+    let reverse = at_most_8(r);
+    put_head(book, at, forward, slots, q);
+    put_tail(book, at, forward, reverse, slots, q + 10);
 }

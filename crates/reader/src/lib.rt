@@ -4,6 +4,13 @@ mod scan;
 mod steps;
 
 use book::Scan;
+use book::State;
+use scan::Turn;
+ghost use mathlib.Core.Path.{_≡_};
+ghost use Rattle.book.specs.Parse.{cut, atStart};
+ghost use Rattle.book.specs.Parse as parse;
+ghost use Rattle.reader.specs.Judged.{ScanBounded};
+ghost use Rattle.reader.specs.Filling.{TableFilled, SlotsFilled};
 ghost use Rattle.reader.specs.Contract.{ReadAs};
 
 // What reading and checking answer: the code and its place; n, m and the number of items, each 0 on a refusal.
@@ -14,6 +21,65 @@ pub struct Reading {
     pub n: u64,
     pub m: u64,
     pub items: u64,
+}
+
+// Judges the bytes of a book with no buffer lent: the first fault, or where reading is at its end.
+pub fn judge(book: &[u8]) -> Scan
+    ensures { λ r. ⌜ r ≡ parse.scan (cut (now (book .entry))) 0 atStart ⌝ }
+    ensures { λ r. ⌜ ScanBounded r ⌝ }
+{
+    let mut at: usize = 0;
+    let mut st = State {
+        phase: 0,
+        n: 0,
+        m: 0,
+        low: 0,
+        items: 0,
+    };
+    loop {
+        let next = scan::turn_at(book, at, st);
+        match next {
+            Turn::Ended(seen) => {
+                return seen;
+            }
+            Turn::Going(after, place) => {
+                st = after;
+                at = place;
+            }
+        }
+    }
+}
+
+// Fills the table from the bytes of an allowed book; gives the place of its first item. Other bytes leave something or other in it.
+pub fn fill_table(book: &[u8], table: &mut [u64]) -> usize
+    ensures { λ r. ⌜ TableFilled (now (book .entry)) (now (table .entry)) (now (table .exit)) r ⌝ }
+{
+    let n = octets::byte_at(book, 4);
+    let m = octets::byte_at(book, 5);
+    fill::clear(table, (n * m) as usize);
+    let mut at: usize = 6;
+    while octets::u16_at(book, at + 2) == 2 {
+        fill::put_move(book, at, m, table);
+        at = at + 14;
+    }
+    at
+}
+
+// Fills the slots from the bytes of an allowed book whose first item is at a place.
+pub fn fill_slots(book: &[u8], first: usize, slots: &mut [u8])
+    ensures { λ _. ⌜ SlotsFilled (now (book .entry)) first (now (slots .entry)) (now (slots .exit)) ⌝ }
+{
+    let mut at = first;
+    let mut i: usize = 0;
+    while at < book.len() {
+        if 64 <= i {
+            return;
+        }
+        let item = items::counts_at(book, at);
+        fill::put_slot(book, at, item.k, item.r, slots, 34 * i);
+        at = item.next;
+        i = i + 1;
+    }
 }
 
 // Reads a book into a table of at least 2,048 entries and slots of at least 2,176 bytes. Nothing is filled before the last record
@@ -39,7 +105,7 @@ pub fn read(book: &[u8], table: &mut [u64], slots: &mut [u8]) -> Reading
             items: 0,
         };
     }
-    let seen = scan::scan_all(book);
+    let seen = judge(book);
     match seen {
         Scan::Fault(code, place) => Reading {
             code: code,
@@ -49,15 +115,13 @@ pub fn read(book: &[u8], table: &mut [u64], slots: &mut [u8]) -> Reading
             items: 0,
         },
         Scan::Read(st) => {
-            let n = st.n;
-            let m = st.m;
-            fill::clear(table, (n * m) as usize);
-            fill::fill(book, m, table, slots);
+            let first = fill_table(book, table);
+            fill_slots(book, first, slots);
             Reading {
                 code: 0,
                 place: 0,
-                n: n,
-                m: m,
+                n: st.n,
+                m: st.m,
                 items: st.items,
             }
         }

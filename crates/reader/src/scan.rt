@@ -1,14 +1,11 @@
-// The pass over the records that judges them.
+// What stands at an offset, and the judgement of one record there.
 use crate::steps;
 use book::Scan;
 use book::State;
 use book::Step;
-ghost use mathlib.Core.Path.{_≡_};
 ghost use Prim.Native.Nat.{_≤_};
 ghost use lib.ListN.{length};
-ghost use Rattle.book.specs.Parse.{cut, atStart};
-ghost use Rattle.book.specs.Parse as parse;
-ghost use Rattle.reader.specs.Judged.{Limits, ScanBounded};
+ghost use Rattle.reader.specs.Judged.{Limits};
 ghost use Rattle.reader.specs.Turns.{Stands, Turned};
 
 // What stands at an offset.
@@ -21,7 +18,7 @@ pub enum Head {
     Whole(usize, u64),
 }
 
-pub(crate) fn head_at(s: &[u8], at: usize) -> Head
+fn head_at(s: &[u8], at: usize) -> Head
     ensures { λ r. ⌜ Stands (now (s .entry)) at r ⌝ }
 {
     let n = s.len();
@@ -31,11 +28,11 @@ pub(crate) fn head_at(s: &[u8], at: usize) -> Head
     if n - at < 4 {
         return Head::Short;
     }
-    let len = num::u16_at(s, at) as usize;
+    let len = octets::u16_at(s, at) as usize;
     if n - (at + 4) < len {
         return Head::Short;
     }
-    Head::Whole(len, num::u16_at(s, at + 2))
+    Head::Whole(len, octets::u16_at(s, at + 2))
 }
 
 // Where a record leads: all is judged, or on from another state and place.
@@ -45,7 +42,7 @@ pub enum Turn {
 }
 
 // One record judged.
-fn turn_at(s: &[u8], at: usize, st: State) -> Turn
+pub(crate) fn turn_at(s: &[u8], at: usize, st: State) -> Turn
     requires { ⌜ Limits st × (at ≤ length (now s)) ⌝ }
     ensures { λ r. ⌜ Turned (now (s .entry)) at st r ⌝ }
 {
@@ -63,33 +60,6 @@ fn turn_at(s: &[u8], at: usize, st: State) -> Turn
             match step {
                 Step::Go(next) => Turn::Going(next, at + 4 + len),
                 Step::Stop(code) => Turn::Ended(Scan::Fault(code, at as u64)),
-            }
-        }
-    }
-}
-
-// The first fault of the book, or where reading is at its end.
-pub(crate) fn scan_all(s: &[u8]) -> Scan
-    ensures { λ r. ⌜ r ≡ parse.scan (cut (now (s .entry))) 0 atStart ⌝ }
-    ensures { λ r. ⌜ ScanBounded r ⌝ }
-{
-    let mut at: usize = 0;
-    let mut st = State {
-        phase: 0,
-        n: 0,
-        m: 0,
-        low: 0,
-        items: 0,
-    };
-    loop {
-        let next = turn_at(s, at, st);
-        match next {
-            Turn::Ended(seen) => {
-                return seen;
-            }
-            Turn::Going(after, place) => {
-                st = after;
-                at = place;
             }
         }
     }

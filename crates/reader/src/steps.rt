@@ -5,7 +5,8 @@ use states::StateSet;
 ghost use mathlib.Core.Path.{_≡_};
 ghost use Prim.Native.Nat.{_<_};
 ghost use lib.ListN.{length, getD, drop};
-ghost use Rattle.book.specs.Parse.{firstOf, allBelow, deviceTests, deviceNext, moveTests, moveNext, itemTests, itemNext, itemOf, step};
+ghost use Rattle.book.specs.Parse.{firstOf, deviceTests, deviceNext, moveTests, moveNext, itemTests, itemNext, itemOf, step};
+ghost use Rattle.book.specs.Limits.{allBelow};
 ghost use Rattle.reader.specs.Judged.{Limits, Bounded, Counted, moved, rec};
 
 // A device record: n and m.
@@ -19,8 +20,8 @@ fn device_step(st: State, body: &[u8]) -> Step
     if body.len() != 2 {
         return Step::Stop(4);
     }
-    let n = num::byte_at(body, 0);
-    let m = num::byte_at(body, 1);
+    let n = octets::byte_at(body, 0);
+    let m = octets::byte_at(body, 1);
     if n < 1 {
         return Step::Stop(5);
     }
@@ -84,7 +85,7 @@ fn all_below(commands: &[u8], m: u64) -> bool
     ensures { λ r. ⌜ r ≡ allBelow m (now (commands .entry)) ⌝ }
 {
     for i in 0..commands.len() {
-        if m <= num::byte_at(commands, i) {
+        if m <= octets::byte_at(commands, i) {
             return false;
         }
     }
@@ -103,11 +104,11 @@ fn fields_step(st: State, body: &[u8], k: usize, r: usize) -> Step
     if !all_below(&body[2 + k..2 + k + r], st.m) {
         return Step::Stop(5);
     }
-    let phi = num::u64_at(body, 2 + k + r);
+    let phi = octets::u64_at(body, 2 + k + r);
     if !StateSet::of(phi).clear_from(st.n) {
         return Step::Stop(5);
     }
-    let psi = num::u64_at(body, 10 + k + r);
+    let psi = octets::u64_at(body, 10 + k + r);
     if !StateSet::of(psi).clear_from(st.n) {
         return Step::Stop(5);
     }
@@ -135,8 +136,8 @@ fn item_step(st: State, body: &[u8]) -> Step
     if body.len() < 2 {
         return Step::Stop(4);
     }
-    let k = num::byte_at(body, 0) as usize;
-    let r = num::byte_at(body, 1) as usize;
+    let k = octets::byte_at(body, 0) as usize;
+    let r = octets::byte_at(body, 1) as usize;
     if k < 1 {
         return Step::Stop(5);
     }
@@ -165,9 +166,9 @@ pub(crate) fn record_step(st: State, kind: u64, body: &[u8]) -> Step
         return move_step(
             st,
             body.len(),
-            num::byte_at(body, 0),
-            num::byte_at(body, 1),
-            num::u64_at(body, 2),
+            octets::byte_at(body, 0),
+            octets::byte_at(body, 1),
+            octets::u64_at(body, 2),
         );
     }
     if kind == 3 {

@@ -8,11 +8,11 @@ use lib.ListN.{length, take, replicate, length-replicate}
 use lib.Seq.{take-all}
 use Rattle.base.specs.Tests.{pick}
 use Rattle.base.specs.Compare.{less, same}
-use Rattle.num.specs.Le.{bytesLe}
+use Rattle.octets.specs.Le.{bytesLe}
 use Rattle.reversal.specs.Runs.{Run}
 use Rattle.reversal.specs.Answers.{Answer}
 use Rattle.book.specs.Book.{frame}
-use Rattle.book.specs.Parse.{allBelow}
+use Rattle.book.specs.Limits.{allBelow}
 use Rattle.book.specs.Example.{bytesQ}
 use Rattle.book.proofs.Fields.{all-on}
 use Rattle.reader.specs.Reads.{Long}

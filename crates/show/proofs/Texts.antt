@@ -8,9 +8,9 @@ use native.Mathlib.Omega.{arith}
 use lib.ListN.{length, getD, take, length-append, length-take}
 use lib.Seq.{sets, take-all, take-nil, take-take}
 use Rattle.base.proofs.Picks.{same-yes, same-no}
-use Rattle.num.specs.Le.{bytesLe}
-use Rattle.num.specs.Parts.{piece}
-use Rattle.num.proofs.Put.{sets-append, piece-take}
+use Rattle.octets.specs.Le.{bytesLe}
+use Rattle.octets.specs.Parts.{piece}
+use Rattle.octets.proofs.Put.{sets-append, piece-take}
 use Rattle.io.specs.Counts.{Counts}
 use Rattle.io.specs.Digits.{digits, Fewest}
 use Rattle.show.specs.Show.{newline, space, decimal, field, line, linesOf, planned}

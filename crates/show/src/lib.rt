@@ -4,7 +4,7 @@ ghost use mathlib.Core.List.{[], _∷_};
 ghost use Prim.Native.Nat.{_+_, _*_, _^_, _<_, _≤_, min};
 ghost use lib.ListN.{length};
 ghost use lib.Seq.{sets};
-ghost use Rattle.num.specs.Parts.{piece};
+ghost use Rattle.octets.specs.Parts.{piece};
 ghost use Rattle.show.specs.Show.{field, line, linesOf, planned};
 ghost use Rattle.show.specs.Written.{Written};
 
@@ -16,8 +16,8 @@ fn put_field(out: &mut [u8], at: usize, n: u64, after: u8) -> usize
 {
     let mut text = [0u8; 20];
     let k = io::decimal(n, &mut text);
-    num::copy(k, &text[..k], 0, out, at);
-    num::put_le(1, after as u64, out, at + k);
+    octets::copy(k, &text[..k], 0, out, at);
+    octets::put_le(1, after as u64, out, at + k);
     at + k + 1
 }
 
@@ -39,16 +39,16 @@ fn put_plan(out: &mut [u8], at: usize, plan: &[u8], n: usize) -> usize
     ensures { λ r. ⌜ r ≤ at + 21 * n + 1 ⌝ }
 {
     if n == 0 {
-        num::put_le(1, 10, out, at);
+        octets::put_le(1, 10, out, at);
         return at + 1;
     }
     let mut next = at;
     let mut i: usize = 0;
     while i + 1 < n {
-        next = put_field(out, next, num::byte_at(plan, i), b' ');
+        next = put_field(out, next, octets::byte_at(plan, i), b' ');
         i = i + 1;
     }
-    put_field(out, next, num::byte_at(plan, i), b'\n')
+    put_field(out, next, octets::byte_at(plan, i), b'\n')
 }
 
 // The lesser of two numbers.

@@ -54,7 +54,7 @@ pub fn print_bytes(s: &[u8], count: usize) -> usize
             io::write_all(STDOUT_FILENO, b"\n");
             return i;
         }
-        print_next(i == 0, num::byte_at(s, i));
+        print_next(i == 0, octets::byte_at(s, i));
         i = i + 1;
     }
     io::write_all(STDOUT_FILENO, b"\n");

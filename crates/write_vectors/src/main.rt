@@ -10,7 +10,7 @@ fn fill_table(case: &[u8], table: &mut [u64]) {
         if table.len() <= i {
             return;
         }
-        table[i] = num::u64_at(case, 25 + 8 * i);
+        table[i] = octets::u64_at(case, 25 + 8 * i);
         i = i + 1;
     }
 }
@@ -28,15 +28,15 @@ fn size(stated: usize, short: bool) -> usize
 // Fills the lent buffers and writes; each buffer is lent on whole, or one short.
 fn write_case(case: &[u8], table: &mut [u64], slots: &mut [u8], out: &mut [u8]) -> Writing {
     fill_table(case, table);
-    num::copy(102, case, 409, slots, 0);
-    let short = num::byte_at(case, 24);
+    octets::copy(102, case, 409, slots, 0);
+    let short = octets::byte_at(case, 24);
     let table_size = size(table.len(), short == 2);
     let slots_size = size(slots.len(), short == 3);
     let out_size = size(out.len(), short == 1);
     writer::write(
-        num::u64_at(case, 0),
-        num::u64_at(case, 8),
-        num::u64_at(case, 16),
+        octets::u64_at(case, 0),
+        octets::u64_at(case, 8),
+        octets::u64_at(case, 16),
         &table[..table_size],
         &slots[..slots_size],
         &mut out[..out_size],

@@ -11,8 +11,8 @@ use Rattle.base.specs.Tests.{pick, both}
 use Rattle.base.specs.Bounded.{seek}
 use Rattle.base.specs.Compare.{less}
 use Rattle.base.specs.Masks.{clearFrom}
-use Rattle.num.specs.Parts.{piece}
-use Rattle.book.specs.Parse.{allBelow}
+use Rattle.octets.specs.Parts.{piece}
+use Rattle.book.specs.Limits.{allBelow}
 use Rattle.book.proofs.Fields.{all-on}
 use Rattle.writer.specs.declared.Writing.{Writing}
 use Rattle.writer.specs.Checks.{fieldsFine, slotFine, lowestEntry, lowestSlot}

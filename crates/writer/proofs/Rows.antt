@@ -13,7 +13,7 @@ use lib.Seq.{sets, drop-drop}
 use Rattle.base.specs.Tests.{pick}
 use Rattle.base.specs.Compare.{same}
 use Rattle.base.proofs.Picks.{same-yes, same-no}
-use Rattle.num.proofs.Put.{sets-append}
+use Rattle.octets.proofs.Put.{sets-append}
 use Rattle.book.specs.Book.{frame, framed, moveRec, itemRec}
 use Rattle.book.specs.Buffers.{moveAt, movesFrom, itemAt, itemsFrom}
 use Rattle.writer.specs.declared.records.Cell.{Cell}

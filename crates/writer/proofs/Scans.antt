@@ -14,8 +14,8 @@ use Rattle.base.specs.Masks.{clearFrom}
 use Rattle.base.proofs.Picks as P
 use Rattle.states.specs.declared.StateSet.{StateSet}
 use Rattle.states.specs.StateSets.{setOf}
-use Rattle.num.specs.Parts.{piece}
-use Rattle.book.specs.Parse.{allBelow}
+use Rattle.octets.specs.Parts.{piece}
+use Rattle.book.specs.Limits.{allBelow}
 
 -- ---- all bytes below m
 pub below-start : (n : ℕ) (s : List ℕ) (p m : ℕ) → allBelow m (piece (n - 0) s (p + 0)) ≡ allBelow m (piece n s p)

@@ -14,10 +14,10 @@ use Rattle.base.proofs.Picks.{tests}
 use Rattle.base.proofs.Parts.{each-replicate}
 use Rattle.reversal.specs.Device.{Device}
 use Rattle.reversal.specs.Reversal.{AllowedItem}
-use Rattle.num.specs.Parts.{leAt, piece}
-use Rattle.num.proofs.Put.{length-piece, piece-take}
+use Rattle.octets.specs.Parts.{leAt, piece}
+use Rattle.octets.proofs.Put.{length-piece, piece-take}
 use Rattle.book.specs.Buffers.{itemAt, SlotFine}
-use Rattle.book.specs.Parse.{allBelow}
+use Rattle.book.specs.Limits.{allBelow}
 use Rattle.book.proofs.Fields.{all-of, all-on, clear-of, clear-on}
 use Rattle.writer.specs.Checks.{fieldsFine, slotFine}
 use Rattle.writer.proofs.Stores.{slotItem, slot-count, slot-reverse, slot-item}

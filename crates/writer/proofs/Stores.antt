@@ -7,10 +7,10 @@ use native.Mathlib.Omega.{arith}
 use lib.ListN.{length, getD, drop}
 use lib.Seq.{sets, drop-drop, getD-drop}
 use Rattle.reversal.specs.Reversal.{Item}
-use Rattle.num.specs.Le.{bytesLe}
-use Rattle.num.specs.Parts.{leAt, piece}
-use Rattle.num.proofs.Le.{byte-one}
-use Rattle.num.proofs.Put.{sets-append, length-piece, piece-take}
+use Rattle.octets.specs.Le.{bytesLe}
+use Rattle.octets.specs.Parts.{leAt, piece}
+use Rattle.octets.proofs.Le.{byte-one}
+use Rattle.octets.proofs.Put.{sets-append, length-piece, piece-take}
 use Rattle.book.specs.Book.{bytesOf, frame, framed, deviceRec, moveRec, itemRec}
 use Rattle.book.specs.Buffers.{itemAt, movesFrom, itemsFrom, bookFrom}
 use Rattle.book.proofs.Bodies.{move-length, item-length}

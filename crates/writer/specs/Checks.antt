@@ -8,8 +8,8 @@ use Rattle.base.specs.Tests.{pick}
 use Rattle.base.specs.Compare.{less}
 use Rattle.base.specs.Bounded.{seek}
 use Rattle.base.specs.Masks.{clearFrom}
-use Rattle.num.specs.Parts.{leAt, piece}
-use Rattle.book.specs.Parse.{allBelow}
+use Rattle.octets.specs.Parts.{leAt, piece}
+use Rattle.book.specs.Limits.{allBelow}
 
 -- the slot at q, with counts k and r
 unfoldable pub fieldsFine : ℕ → ℕ → List ℕ → ℕ → ℕ → ℕ → Bool

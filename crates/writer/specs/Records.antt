@@ -5,8 +5,8 @@ use Prim.Native.Nat.{ℕ, _+_, _*_, _<_, _≤_}
 use lib.ListN.{getD, drop}
 use Rattle.base.specs.Tests.{pick}
 use Rattle.base.specs.Compare.{same}
-use Rattle.num.specs.Le.{bytesLe}
-use Rattle.num.specs.Parts.{leAt, piece}
+use Rattle.octets.specs.Le.{bytesLe}
+use Rattle.octets.specs.Parts.{leAt, piece}
 use Rattle.book.specs.Book.{Move, frame, framed, moveRec, itemRec}
 use Rattle.writer.specs.declared.records.Cell.{Cell}
 use Rattle.book.specs.Buffers.{moveAt, movesFrom, itemsFrom}

@@ -4,8 +4,8 @@ ghost use mathlib.Core.Path.{_≡_};
 ghost use Prim.Native.Nat.{_+_, _*_, _<_, _≤_, _^_};
 ghost use lib.ListN.{getD};
 ghost use Rattle.base.specs.Masks.{clearFrom};
-ghost use Rattle.num.specs.Parts.{leAt, piece};
-ghost use Rattle.book.specs.Parse.{allBelow};
+ghost use Rattle.octets.specs.Parts.{leAt, piece};
+ghost use Rattle.book.specs.Limits.{allBelow};
 ghost use Rattle.writer.specs.Checks.{fieldsFine, slotFine, lowestEntry, lowestSlot};
 
 // The entry i of a table, or 0 past its end.
@@ -36,7 +36,7 @@ fn all_below(k: usize, s: &[u8], p: usize, m: u64) -> bool
 {
     let mut i: usize = 0;
     while i < k {
-        if m <= num::byte_at(s, p + i) {
+        if m <= octets::byte_at(s, p + i) {
             return false;
         }
         i = i + 1;
@@ -48,7 +48,7 @@ fn all_below(k: usize, s: &[u8], p: usize, m: u64) -> bool
 fn mask_clear(s: &[u8], p: usize, n: u64) -> bool
     ensures { λ r. ⌜ r ≡ clearFrom n (leAt 8 (now (s .entry)) p) ⌝ }
 {
-    StateSet::of(num::u64_at(s, p)).clear_from(n)
+    StateSet::of(octets::u64_at(s, p)).clear_from(n)
 }
 
 // Whether the slot at q, with counts k and r, has commands below m, masks with no bit at n or above, and zeros in its unused command bytes.
@@ -79,8 +79,8 @@ fn slot_fine(s: &[u8], q: usize, n: u64, m: u64) -> bool
     requires { ⌜ q + 34 < 2 ^ 64 ⌝ }
     ensures { λ x. ⌜ x ≡ slotFine n m (now (s .entry)) q ⌝ }
 {
-    let k = num::byte_at(s, q);
-    let r = num::byte_at(s, q + 1);
+    let k = octets::byte_at(s, q);
+    let r = octets::byte_at(s, q + 1);
     if k < 1 {
         return false;
     }

@@ -13,10 +13,10 @@ fn put_device(n: u64, m: u64, d: &mut [u8])
     requires { ⌜ (n < 256) × (m < 256) ⌝ }
     ensures { λ _. ⌜ now (d .exit) ≡ sets (now (d .entry)) 0 (frame (deviceRec n m)) ⌝ }
 {
-    num::put_le(2, 2, d, 0);
-    num::put_le(2, 1, d, 2);
-    num::put_le(1, n, d, 4);
-    num::put_le(1, m, d, 5);
+    octets::put_le(2, 2, d, 0);
+    octets::put_le(2, 1, d, 2);
+    octets::put_le(1, n, d, 4);
+    octets::put_le(1, m, d, 5);
 }
 
 // The record of a move, from `at` on.
@@ -24,11 +24,11 @@ fn put_move(state: u64, command: u64, mask: u64, d: &mut [u8], at: usize)
     requires { ⌜ (at + 14 < 2 ^ 64) × (state < 256) × (command < 256) ⌝ }
     ensures { λ _. ⌜ now (d .exit) ≡ sets (now (d .entry)) at (frame (moveRec (move state command mask))) ⌝ }
 {
-    num::put_le(2, 10, d, at);
-    num::put_le(2, 2, d, at + 2);
-    num::put_le(1, state, d, at + 4);
-    num::put_le(1, command, d, at + 5);
-    num::put_le(8, mask, d, at + 6);
+    octets::put_le(2, 10, d, at);
+    octets::put_le(2, 2, d, at + 2);
+    octets::put_le(1, state, d, at + 4);
+    octets::put_le(1, command, d, at + 5);
+    octets::put_le(8, mask, d, at + 6);
 }
 
 // The record of an entry, where its mask is not 0.
@@ -95,10 +95,10 @@ fn put_head(k: u64, r: u64, d: &mut [u8], at: usize)
     requires { ⌜ (k ≤ 8) × (r ≤ 8) × (at + 6 < 2 ^ 64) ⌝ }
     ensures { λ _. ⌜ now (d .exit) ≡ sets (now (d .entry)) at (itemHead k r) ⌝ }
 {
-    num::put_le(2, 18 + k + r, d, at);
-    num::put_le(2, 3, d, at + 2);
-    num::put_le(1, k, d, at + 4);
-    num::put_le(1, r, d, at + 5);
+    octets::put_le(2, 18 + k + r, d, at);
+    octets::put_le(2, 3, d, at + 2);
+    octets::put_le(1, k, d, at + 4);
+    octets::put_le(1, r, d, at + 5);
 }
 
 // The commands and masks of the slot at q, from `at` on.
@@ -106,10 +106,10 @@ fn put_tail(s: &[u8], q: usize, k: usize, r: usize, d: &mut [u8], at: usize)
     requires { ⌜ (k ≤ 8) × (r ≤ 8) × (q + 34 < 2 ^ 64) × (at + 32 < 2 ^ 64) ⌝ }
     ensures { λ _. ⌜ now (d .exit) ≡ sets (now (d .entry)) at (itemTail (now (s .entry)) q k r) ⌝ }
 {
-    num::copy(k, s, q + 2, d, at);
-    num::copy(r, s, q + 10, d, at + k);
-    num::put_le(8, num::u64_at(s, q + 18), d, at + k + r);
-    num::put_le(8, num::u64_at(s, q + 26), d, at + k + r + 8);
+    octets::copy(k, s, q + 2, d, at);
+    octets::copy(r, s, q + 10, d, at + k);
+    octets::put_le(8, octets::u64_at(s, q + 18), d, at + k + r);
+    octets::put_le(8, octets::u64_at(s, q + 26), d, at + k + r + 8);
 }
 
 // The record of the item in the slot at q.
@@ -119,8 +119,8 @@ fn put_item(s: &[u8], q: usize, d: &mut [u8], at: usize) -> usize
     ensures { λ r. ⌜ r ≡ at + length (frame (itemRec (itemAt (drop q (now (s .entry)))))) ⌝ }
     ensures { λ r. ⌜ r ≤ at + 38 ⌝ }
 {
-    let k = num::byte_at(s, q);
-    let r = num::byte_at(s, q + 1);
+    let k = octets::byte_at(s, q);
+    let r = octets::byte_at(s, q + 1);
     put_head(k, r, d, at);
     put_tail(s, q, k as usize, r as usize, d, at + 6);
     at + 22 + k as usize + r as usize

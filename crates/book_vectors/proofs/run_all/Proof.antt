@@ -7,8 +7,8 @@ use Rattle.book_vectors.proofs.run_all.Tie as tie
 use Rattle.book_vectors.proofs.run_all.Reads as reads
 use Rattle.book_vectors.proofs.run_all.Lts as lts
 use Rattle.book_vectors.proofs.run_with.Reads as run-with-reads
-use Rattle.num.proofs.byte_at.Reads as byte-at-reads
-use Rattle.num.proofs.u16_at.Reads as u16-at-reads
+use Rattle.octets.proofs.byte_at.Reads as byte-at-reads
+use Rattle.octets.proofs.u16_at.Reads as u16-at-reads
 use Rattle.vectors.proofs.part.Reads as part-reads
 
 abbrev Inv-loop : tie.InvT-loop

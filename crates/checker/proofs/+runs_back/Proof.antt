@@ -16,7 +16,7 @@ use borrow.Fn.PlainCycle.{Measures, is, falls, and}
 use Rattle.checker.proofs.runs_back.Reads as runs-back
 use Rattle.checker.proofs.runs_back.Kinds as runs-back-kinds
 use Rattle.checker.proofs.+runs_back.Lts-runs_back as runs-back-lts
-use Rattle.num.proofs.byte_at.Reads as byte-at-reads
+use Rattle.octets.proofs.byte_at.Reads as byte-at-reads
 use Rattle.states.proofs.StateSet.is_only.Reads as is-only-reads
 use Rattle.states.proofs.StateSet.sent.Reads as sent-reads
 use Rattle.checker.proofs.+runs_back.{statement}

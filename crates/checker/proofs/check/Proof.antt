@@ -46,8 +46,9 @@ same-length-4 c = search needs
 
 returns-2 : tie.Need-returns-2
 returns-2 c =
-    judged (c .before .before .before .before .before .before .before .before .before .before .read .ensures) (c .before .before .before .before .if1 .left) _ (c .before .before .first-wrong .ensures) _
-    (sym (ap (λ (j : Judgement). onJudgement j refusal (c .before .before .before .before .before .before .before .before .before .before .read .result)) (c .enum-told .given .1)))
+    let f = c .before .before in
+    let r = f .before .before .before .before .before .before .before .before .read in
+    judged (r .ensures) (f .before .before .if1 .left) _ (f .first-wrong .ensures) _ (sym (ap (λ (j : Judgement). onJudgement j refusal (r .result)) (c .enum-told .given .1)))
 
 same-length-5 : tie.Need-same-length-5
 same-length-5 c = search needs
@@ -57,9 +58,11 @@ same-length-6 c = search needs
 
 returns-3 : tie.Need-returns-3
 returns-3 c =
-    judged (c .before .before .before .before .before .before .before .before .before .before .before .before .read .ensures) (c .before .before .before .before .before .before .if1 .left) _ (c .before .before .before .before .first-wrong .ensures) _
-    (ap (λ (k : ℕ). refusal k (c .before .before .judged .given .0 .0)) (c .code-of .ensures)
-    ∙ sym (ap (λ (j : Judgement). onJudgement j refusal (c .before .before .before .before .before .before .before .before .before .before .before .before .read .result)) (c .before .before .judged .given .1)))
+    let found = c .before .before .judged .given in
+    let f = c .before .before .before .before in
+    let r = f .before .before .before .before .before .before .before .before .read in
+    judged (r .ensures) (f .before .before .if1 .left) _ (f .first-wrong .ensures) _
+    (ap (λ (k : ℕ). refusal k (found .0 .0)) (c .code-of .ensures) ∙ sym (ap (λ (j : Judgement). onJudgement j refusal (r .result)) (found .1)))
 
 pub check-spec : {M : Type 1} → statement M
 check-spec =

@@ -10,7 +10,7 @@ use Rattle.items.proofs.first_item.Statement.{statement}
 use Rattle.items.proofs.first_item.Tie as tie
 use Rattle.items.proofs.first_item.Reads as reads
 use Rattle.items.proofs.first_item.Lts as lts
-use Rattle.num.proofs.u16_at.Reads as u16-at-reads
+use Rattle.octets.proofs.u16_at.Reads as u16-at-reads
 
 abbrev Inv-loop : tie.InvT-loop
 Inv-loop book at₀ at = (at ≤ length book + 12) × ((b : Book) → bytesOf b ≡ book → Before book b at)

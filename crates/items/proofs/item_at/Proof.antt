@@ -6,8 +6,8 @@ use Rattle.items.proofs.item_at.Statement.{statement}
 use Rattle.items.proofs.item_at.Tie as tie
 use Rattle.items.proofs.item_at.Reads as reads
 use Rattle.items.proofs.item_at.Lts as lts
-use Rattle.num.proofs.byte_at.Reads as byte-at-reads
-use Rattle.num.proofs.u64_at.Reads as u64-at-reads
+use Rattle.octets.proofs.byte_at.Reads as byte-at-reads
+use Rattle.octets.proofs.u64_at.Reads as u64-at-reads
 
 -- past the end no item stands
 returns : tie.Need-returns

@@ -4,7 +4,7 @@ use mathlib.Core.Path.{_≡_}
 use Prim.Native.Nat.{_+_, _-_, _*_, _≤_, _<_}
 use borrow.Author.Needs.{needs}
 use lib.ListN.{length}
-use Rattle.num.specs.Parts.{piece}
+use Rattle.octets.specs.Parts.{piece}
 use Rattle.show.specs.Show.{line}
 use Rattle.show.proofs.Texts.{Completes, plan-none, plan-start, plan-again, plan-last}
 use Rattle.show.proofs.put_plan.Statement.{statement}

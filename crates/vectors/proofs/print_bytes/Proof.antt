@@ -7,7 +7,7 @@ use Rattle.vectors.proofs.print_bytes.Tie as tie
 use Rattle.vectors.proofs.print_bytes.Reads as reads
 use Rattle.vectors.proofs.print_bytes.Lts as lts
 use Rattle.io.proofs.write_all.Reads as write-all-reads
-use Rattle.num.proofs.byte_at.Reads as byte-at-reads
+use Rattle.octets.proofs.byte_at.Reads as byte-at-reads
 use Rattle.vectors.proofs.print_next.Reads as print-next-reads
 
 abbrev Inv-loop : tie.InvT-loop

@@ -5,7 +5,7 @@ use Rattle.assembly.proofs.chain.put_leg.Statement.{statement}
 use Rattle.assembly.proofs.chain.put_leg.Tie as tie
 use Rattle.assembly.proofs.chain.put_leg.Reads as reads
 use Rattle.assembly.proofs.chain.put_leg.Lts as lts
-use Rattle.num.proofs.put_le.Reads as put-le-reads
+use Rattle.octets.proofs.put_le.Reads as put-le-reads
 
 put-le-requires : tie.Need-put-le-requires
 put-le-requires c κs = search needs

@@ -12,7 +12,7 @@ use Rattle.assembly.proofs.chain.put_leg.Reads as put-leg-reads
 use Rattle.assembly.proofs.slot.k.Reads as k-reads
 use Rattle.assembly.proofs.slot.put_reverse.Reads as put-reverse-reads
 use Rattle.assembly.proofs.slot.r.Reads as r-reads
-use Rattle.num.proofs.byte_at.Reads as byte-at-reads
+use Rattle.octets.proofs.byte_at.Reads as byte-at-reads
 
 abbrev Inv-loop : tie.InvT-loop
 Inv-loop slots items i plan₀ legs₀ j₀ commands₀ count₀ plan legs j commands count = Walking (inSlots slots) items i plan₀ legs₀ plan legs j commands count

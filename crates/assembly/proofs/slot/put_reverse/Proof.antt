@@ -6,7 +6,7 @@ use Rattle.assembly.proofs.slot.put_reverse.Tie as tie
 use Rattle.assembly.proofs.slot.put_reverse.Reads as reads
 use Rattle.assembly.proofs.slot.put_reverse.Lts as lts
 use Rattle.assembly.proofs.slot.r.Reads as r-reads
-use Rattle.num.proofs.copy.Reads as copy-reads
+use Rattle.octets.proofs.copy.Reads as copy-reads
 
 r-requires : tie.Need-r-requires
 r-requires c κs = search needs

@@ -1,12 +1,12 @@
 -- `r` meets its contract: the reverse commands are as many as the slot's second byte says. Assumes nothing.
 use mathlib.Core.Path.{sym, _∙_}
 use borrow.Author.Needs.{needs}
-use Rattle.num.proofs.Put.{length-piece}
+use Rattle.octets.proofs.Put.{length-piece}
 use Rattle.assembly.proofs.slot.r.Statement.{statement}
 use Rattle.assembly.proofs.slot.r.Tie as tie
 use Rattle.assembly.proofs.slot.r.Reads as reads
 use Rattle.assembly.proofs.slot.r.Lts as lts
-use Rattle.num.proofs.byte_at.Reads as byte-at-reads
+use Rattle.octets.proofs.byte_at.Reads as byte-at-reads
 
 mul-byte-at : tie.Need-mul-byte-at
 mul-byte-at c = search needs

@@ -5,14 +5,20 @@ use Rattle.reader.proofs.fill.put_head.Statement.{statement}
 use Rattle.reader.proofs.fill.put_head.Tie as tie
 use Rattle.reader.proofs.fill.put_head.Reads as reads
 use Rattle.reader.proofs.fill.put_head.Lts as lts
-use Rattle.num.proofs.copy.Reads as copy-reads
-use Rattle.num.proofs.put_le.Reads as put-le-reads
+use Rattle.octets.proofs.copy.Reads as copy-reads
+use Rattle.octets.proofs.put_le.Reads as put-le-reads
+
+add-copy : tie.Need-add-copy
+add-copy c = search needs
 
 copy-requires : tie.Need-copy-requires
 copy-requires c κs = search needs
 
-add-copy : tie.Need-add-copy
-add-copy c = search needs
+add-copy-2 : tie.Need-add-copy-2
+add-copy-2 c = search needs
+
+add-copy-3 : tie.Need-add-copy-3
+add-copy-3 c = search needs
 
 copy-requires-2 : tie.Need-copy-requires-2
 copy-requires-2 c κs = search needs
@@ -35,14 +41,17 @@ same-length c = search needs
 returns : tie.Need-returns
 returns c =
     let a = c .before .before .before .before .before .before .before .before .before .before .before .before .before .before .args in
-    head-put (a .body .now) (a .k) (a .q) (a .slots .now) _ _ _ (c .before .before .before .before .before .before .before .before .before .before .copy .ensures) (c .before .before .before .before .before .before .copy2 .ensures) (c .before .before .put-le .ensures)
+    let first = c .before .before .before .before .before .before .before .before .before .before in
+    head-put (a .book .now) (a .at) (a .k) (a .q) (a .slots .now) _ _ _ (first .copy .ensures) (c .before .before .before .before .before .before .copy2 .ensures) (c .before .before .put-le .ensures)
 
 pub put-head-spec : {M : Type 1} → statement M
 put-head-spec =
     tie.close
     (tie.spec
-    copy-requires
     add-copy
+    copy-requires
+    add-copy-2
+    add-copy-3
     copy-requires-2
     sub-put-le
     add-put-le

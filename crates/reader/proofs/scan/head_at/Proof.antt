@@ -7,7 +7,7 @@ use Rattle.reader.proofs.scan.head_at.Statement.{statement}
 use Rattle.reader.proofs.scan.head_at.Tie as tie
 use Rattle.reader.proofs.scan.head_at.Reads as reads
 use Rattle.reader.proofs.scan.head_at.Lts as lts
-use Rattle.num.proofs.u16_at.Reads as u16-at-reads
+use Rattle.octets.proofs.u16_at.Reads as u16-at-reads
 
 returns : tie.Need-returns
 returns c = cut-end (c .before .before .args .s .now) (c .before .before .args .at) (c .if1 .taken)

@@ -4,13 +4,13 @@ use Prim.Native.Nat.{_-_, _≤_}
 use native.Mathlib.Omega.{arith}
 use borrow.Author.Needs.{needs}
 use lib.ListN.{length, drop}
-use Rattle.book.specs.Parse.{allBelow}
+use Rattle.book.specs.Limits.{allBelow}
 use Rattle.reader.proofs.Laws.{below-again, below-stop, below-done}
 use Rattle.reader.proofs.steps.all_below.Statement.{statement}
 use Rattle.reader.proofs.steps.all_below.Tie as tie
 use Rattle.reader.proofs.steps.all_below.Reads as reads
 use Rattle.reader.proofs.steps.all_below.Lts as lts
-use Rattle.num.proofs.byte_at.Reads as byte-at-reads
+use Rattle.octets.proofs.byte_at.Reads as byte-at-reads
 
 abbrev Inv-loop : tie.InvT-loop
 Inv-loop commands m i₀ i-end i = (allBelow m (drop i commands) ≡ allBelow m commands) × (i ≤ length commands)

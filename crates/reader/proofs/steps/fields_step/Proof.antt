@@ -6,14 +6,15 @@ use Prim.Native.Nat.{ℕ}
 use Rattle.base.specs.Masks.{clearFrom}
 use Rattle.base.proofs.Picks.{tests}
 use Rattle.states.specs.declared.StateSet.{StateSet}
-use Rattle.book.specs.Parse.{allBelow, itemOf}
+use Rattle.book.specs.Parse.{itemOf}
+use Rattle.book.specs.Limits.{allBelow}
 use Rattle.reader.proofs.Laws.{forward-is, reverse-is, phi-is, psi-is}
 use borrow.Author.Needs.{needs}
 use Rattle.reader.proofs.steps.fields_step.Statement.{statement}
 use Rattle.reader.proofs.steps.fields_step.Tie as tie
 use Rattle.reader.proofs.steps.fields_step.Reads as reads
 use Rattle.reader.proofs.steps.fields_step.Lts as lts
-use Rattle.num.proofs.u64_at.Reads as u64-at-reads
+use Rattle.octets.proofs.u64_at.Reads as u64-at-reads
 use Rattle.reader.proofs.steps.all_below.Reads as all-below-reads
 use Rattle.states.proofs.StateSet.clear_from.Reads as clear-from-reads
 use Rattle.states.proofs.StateSet.of.Reads as of-reads

@@ -5,7 +5,7 @@ use Rattle.reader.proofs.steps.item_step.Statement.{statement}
 use Rattle.reader.proofs.steps.item_step.Tie as tie
 use Rattle.reader.proofs.steps.item_step.Reads as reads
 use Rattle.reader.proofs.steps.item_step.Lts as lts
-use Rattle.num.proofs.byte_at.Reads as byte-at-reads
+use Rattle.octets.proofs.byte_at.Reads as byte-at-reads
 use Rattle.reader.proofs.steps.fields_step.Reads as fields-step-reads
 
 returns : tie.Need-returns

@@ -10,8 +10,8 @@ use Rattle.reader.proofs.steps.record_step.Statement.{statement}
 use Rattle.reader.proofs.steps.record_step.Tie as tie
 use Rattle.reader.proofs.steps.record_step.Reads as reads
 use Rattle.reader.proofs.steps.record_step.Lts as lts
-use Rattle.num.proofs.byte_at.Reads as byte-at-reads
-use Rattle.num.proofs.u64_at.Reads as u64-at-reads
+use Rattle.octets.proofs.byte_at.Reads as byte-at-reads
+use Rattle.octets.proofs.u64_at.Reads as u64-at-reads
 use Rattle.reader.proofs.steps.device_step.Reads as device-step-reads
 use Rattle.reader.proofs.steps.item_step.Reads as item-step-reads
 use Rattle.reader.proofs.steps.move_step.Reads as move-step-reads

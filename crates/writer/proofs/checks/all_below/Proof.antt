@@ -2,8 +2,8 @@
 use mathlib.Core.Path.{_≡_}
 use Prim.Native.Nat.{_+_, _-_, _≤_}
 use borrow.Author.Needs.{needs}
-use Rattle.num.specs.Parts.{piece}
-use Rattle.book.specs.Parse.{allBelow}
+use Rattle.octets.specs.Parts.{piece}
+use Rattle.book.specs.Limits.{allBelow}
 use Rattle.writer.proofs.Scans.{below-start, below-again, below-stop, below-finish}
 use Rattle.writer.proofs.checks.all_below.Statement.{statement}
 use Rattle.writer.proofs.checks.all_below.Tie as tie

@@ -1,7 +1,7 @@
 -- `writer::records::put_head` meets its contract: four numbers, one after the other. Assumes nothing.
 use mathlib.Core.Path.{refl}
 use Prim.Native.Nat.{_+_}
-use Rattle.num.specs.Le.{bytesLe}
+use Rattle.octets.specs.Le.{bytesLe}
 use Rattle.writer.specs.Records.{itemHead}
 use Rattle.writer.proofs.Stores.{first, then}
 use borrow.Author.Needs.{needs}

@@ -5,10 +5,10 @@ use Prim.Native.Nat.{ℕ, _+_}
 use native.Mathlib.Omega.{arith}
 use lib.ListN.{length-append}
 use lib.Seq.{sets}
-use Rattle.num.specs.Le.{bytesLe}
-use Rattle.num.specs.Parts.{piece}
-use Rattle.num.proofs.Le.{length-bytesLe}
-use Rattle.num.proofs.Put.{length-piece}
+use Rattle.octets.specs.Le.{bytesLe}
+use Rattle.octets.specs.Parts.{piece}
+use Rattle.octets.proofs.Le.{length-bytesLe}
+use Rattle.octets.proofs.Put.{length-piece}
 use Rattle.writer.specs.Records.{itemTail}
 use Rattle.writer.proofs.Stores.{first, then}
 use borrow.Author.Needs.{needs}

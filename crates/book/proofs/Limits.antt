@@ -1,0 +1,86 @@
+-- The tests of 01's limits pass exactly where a device, or an item, is allowed. Assumes nothing.
+use mathlib.Core.Path.{_≡_, refl, sym, ap}
+use mathlib.Core.Bool.{Bool, true, false, not, false≢true}
+use Prim.Native.Nat.{ℕ, _≤_}
+use lib.ListN.{length}
+use Rattle.base.specs.Tests.{pick}
+use Rattle.base.specs.Compare.{less}
+use Rattle.base.specs.Masks.{clearFrom}
+use Rattle.base.proofs.Compare.{less-off}
+use Rattle.base.proofs.Picks.{tests}
+use Rattle.reversal.specs.Device.{Device}
+use Rattle.reversal.specs.Reversal.{Item, AllowedItem}
+use Rattle.book.specs.Book.{AllowedDevice}
+use Rattle.book.specs.Limits.{deviceFine, countsFine, allBelow, fieldsFine}
+use Rattle.book.proofs.Fields.{all-of, all-on, clear-of, clear-on}
+
+-- a test that must fail, and what is tested after it
+past : (t rest : Bool) → pick t false rest ≡ true → (t ≡ false) × (rest ≡ true)
+unfolding pick
+past true rest e = absurd (false≢true e)
+past false rest e = (refl, e)
+
+not-off : (t : Bool) → not t ≡ false → t ≡ true
+not-off true e = refl
+not-off false e = absurd (false≢true (sym e))
+
+-- ---- n and m
+module _ (n m : ℕ) where
+  pub device-of : AllowedDevice n m → deviceFine n m ≡ true
+  unfolding deviceFine
+  device-of a = sym (search tests)
+
+  pub device-on : deviceFine n m ≡ true → AllowedDevice n m
+  unfolding deviceFine
+  device-on e =
+      let (a, e₁) = past (less n 1) _ e in
+      let (b, e₂) = past (less 64 n) _ e₁ in
+      let (c, e₃) = past (less m 1) _ e₂ in
+      let (d, _) = past (less 32 m) _ e₃ in
+      record { n-low = less-off n 1 a; n-high = less-off 64 n b; m-low = less-off m 1 c; m-high = less-off 32 m d }
+
+-- ---- the numbers of an item's commands
+module _ (k r : ℕ) where
+  pub counts-of : 1 ≤ k → k ≤ 8 → r ≤ 8 → countsFine k r ≡ true
+  unfolding countsFine
+  counts-of a b c = sym (search tests)
+
+  pub counts-on : countsFine k r ≡ true → (1 ≤ k) × (k ≤ 8) × (r ≤ 8)
+  unfolding countsFine
+  counts-on e =
+      let (a, e₁) = past (less k 1) _ e in
+      let (b, e₂) = past (less 8 k) _ e₁ in
+      let (c, _) = past (less 8 r) _ e₂ in
+      (less-off k 1 a, less-off 8 k b, less-off 8 r c)
+
+-- ---- an item
+module _ (d : Device) (x : Item) where
+  pub item-counts-of : AllowedItem d x → countsFine (length (x .forward)) (length (x .reverse)) ≡ true
+  item-counts-of a = counts-of (length (x .forward)) (length (x .reverse)) (a .some) (a .most) (a .reverse-most)
+
+  pub item-fields-of : AllowedItem d x → fieldsFine (d .n) (d .m) x ≡ true
+  unfolding fieldsFine
+  item-fields-of a =
+      let f : not (allBelow (d .m) (x .forward)) ≡ false = ap not (all-of (d .m) (x .forward) (a .forward-commands)) in
+      let r : not (allBelow (d .m) (x .reverse)) ≡ false = ap not (all-of (d .m) (x .reverse) (a .reverse-commands)) in
+      let p : not (clearFrom (d .n) (x .phi)) ≡ false = ap not (clear-of (d .n) (x .phi) (a .phi-states)) in
+      let q : not (clearFrom (d .n) (x .psi)) ≡ false = ap not (clear-of (d .n) (x .psi) (a .psi-states)) in
+      sym (search tests)
+
+  pub item-on : countsFine (length (x .forward)) (length (x .reverse)) ≡ true → fieldsFine (d .n) (d .m) x ≡ true → AllowedItem d x
+  unfolding fieldsFine
+  item-on c e =
+      let (some, most, reverse-most) = counts-on (length (x .forward)) (length (x .reverse)) c in
+      let (f, e₁) = past (not (allBelow (d .m) (x .forward))) _ e in
+      let (r, e₂) = past (not (allBelow (d .m) (x .reverse))) _ e₁ in
+      let (p, e₃) = past (not (clearFrom (d .n) (x .phi))) _ e₂ in
+      let (q, _) = past (not (clearFrom (d .n) (x .psi))) _ e₃ in
+      record {
+        some = some;
+        most = most;
+        reverse-most = reverse-most;
+        forward-commands = all-on (d .m) (x .forward) (not-off _ f);
+        reverse-commands = all-on (d .m) (x .reverse) (not-off _ r);
+        phi-states = clear-on (d .n) (x .phi) (not-off _ p);
+        psi-states = clear-on (d .n) (x .psi) (not-off _ q);
+      }

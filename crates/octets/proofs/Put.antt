@@ -1,0 +1,94 @@
+-- Rows of bytes stored from a place on. Assumes nothing.
+use mathlib.Core.Path.{_≡_, refl, sym, ap, _∙_, subst}
+use mathlib.Core.Bool.{Bool, true, false, not}
+use mathlib.Core.List.{List, [], _∷_, _++_}
+use Prim.Native.Nat.{ℕ, zero, suc, _+_, _-_, _/_, _%_, _≤_, _<_}
+use native.Mathlib.Nat.{add-zero, sub-zero}
+use native.Mathlib.Numerals.{add-one}
+use native.Mathlib.Decide.{decLt}
+use native.Mathlib.Omega.{arith}
+use borrow.Author.Tests.{leb-true, le-leb, lt-leb}
+use lib.Dec.{T, leb}
+use lib.ListN.{length, getD, set, take, drop}
+use lib.Seq.{set-out, sets, drop-cons}
+use Rattle.octets.specs.Le.{bytesLe}
+use Rattle.octets.specs.Parts.{piece}
+
+-- past the end nothing is stored
+sets-past : (l : List ℕ) (i : ℕ) (xs : List ℕ) → length l ≤ i → sets l i xs ≡ l
+sets-past l i [] h = refl
+sets-past l i (x ∷ xs) h = rw (set-out l i x h) (sets-past l (suc i) xs (omega arith))
+
+-- one row after another is the two rows together
+pub sets-append : (l : List ℕ) (i j : ℕ) (xs ys : List ℕ) → i + length xs ≡ j → sets (sets l i xs) j ys ≡ sets l i (xs ++ ys)
+sets-append l i j [] ys e = let f : i ≡ j = omega arith in rw (← f)
+sets-append l i j (x ∷ xs) ys e = sets-append (set l i x) (suc i) j xs ys (omega arith)
+
+-- ---- the loop of `put_le`, in the form that `search` applies backwards: what is left to store gives the whole
+module _ (whole : List ℕ) (left x to : ℕ) where
+  pub put-again : (d : List ℕ) → sets d to (bytesLe left x) ≡ whole → (left ≡ 0 → ⊥)
+      → sets (set d to (x % 256)) (to + 1) (bytesLe (left - 1) (x / 256)) ≡ whole
+  unfolding bytesLe
+  put-again d w h =
+      let e : left ≡ suc (left - 1) = omega arith in
+      rw (add-one to) (rw e at w)
+
+  pub put-none : (d : List ℕ) → sets d to (bytesLe left x) ≡ whole → left ≡ 0 → d ≡ whole
+  unfolding bytesLe
+  put-none d w h = rw h at w
+
+  pub put-past : (d : List ℕ) → sets d to (bytesLe left x) ≡ whole → length d ≤ to → d ≡ whole
+  put-past d w h = sym (sets-past d to (bytesLe left x) h) ∙ w
+
+-- ---- the loop of `copy`
+pub copy-start : (n : ℕ) (s : List ℕ) (p : ℕ) (d : List ℕ) (q : ℕ) → sets d q (piece (n - 0) s (p + 0)) ≡ sets d q (piece n s p)
+copy-start n s p d q = rw (sub-zero, add-zero p)
+
+-- with one counter for both places
+pub copy-first : (n : ℕ) (s : List ℕ) (p : ℕ) (d : List ℕ) (q : ℕ) → sets d (q + 0) (piece (n - 0) s (p + 0)) ≡ sets d q (piece n s p)
+copy-first n s p d q = rw (add-zero q) (copy-start n s p d q)
+
+module _ (n : ℕ) (s : List ℕ) (p : ℕ) (whole : List ℕ) (i to : ℕ) where
+  pub copy-again : (d : List ℕ) (b : ℕ) → sets d to (piece (n - i) s (p + i)) ≡ whole → b ≡ getD s (p + i) 0 → i ≤ n → (i ≡ n → ⊥)
+      → sets (set d to b) (to + 1) (piece (n - (i + 1)) s (p + (i + 1))) ≡ whole
+  unfolding piece
+  copy-again d b w e h ne =
+      let x : n - i ≡ suc (n - (i + 1)) = omega arith in
+      let g : p + (i + 1) ≡ suc (p + i) = omega arith in
+      rw (add-one to, e, g) (rw x at w)
+
+  pub copy-none : (d : List ℕ) → sets d to (piece (n - i) s (p + i)) ≡ whole → i ≡ n → d ≡ whole
+  unfolding piece
+  copy-none d w h = let e : n - i ≡ 0 = omega arith in rw e at w
+
+  pub copy-past : (d : List ℕ) → sets d to (piece (n - i) s (p + i)) ≡ whole → length d ≤ to → d ≡ whole
+  copy-past d w h = sym (sets-past d to (piece (n - i) s (p + i)) h) ∙ w
+
+pub copy-next : (n : ℕ) (s : List ℕ) (p : ℕ) (whole : List ℕ) (i q : ℕ) (d : List ℕ) (b : ℕ) → sets d (q + i) (piece (n - i) s (p + i)) ≡ whole
+    → b ≡ getD s (p + i) 0 → i < n → sets (set d (q + i) b) (q + (i + 1)) (piece (n - (i + 1)) s (p + (i + 1))) ≡ whole
+copy-next n s p whole i q d b w e h =
+    let f : q + (i + 1) ≡ q + i + 1 = omega arith in
+    rw f (copy-again n s p whole i (q + i) d b w e (omega arith) (λ z. omega arith))
+
+-- ---- the test for room
+pub room-same : (len at n : ℕ) → at ≤ len → leb n (len - at) ≡ leb (at + n) len
+room-same len at n h = go (decLt len (at + n))
+  where
+    go : Dec (len < at + n) → leb n (len - at) ≡ leb (at + n) len
+    go (yes l) = lt-leb n (len - at) (omega arith) ∙ sym (lt-leb (at + n) len l)
+    go (no l) = le-leb n (len - at) (omega arith) ∙ sym (le-leb (at + n) len (omega arith))
+
+pub room-is : (r : Bool) (len at n : ℕ) → r ≡ leb (at + n) len → not r ≡ false → at + n ≤ len
+room-is true len at n e f = leb-true (at + n) len (sym e)
+room-is false len at n e f = absurd (subst T f tt)
+
+-- ---- the bytes that are copied
+pub length-piece : (n : ℕ) (s : List ℕ) (p : ℕ) → length (piece n s p) ≡ n
+unfolding piece
+length-piece zero s p = refl
+length-piece (suc n) s p = ap suc (length-piece n s (suc p))
+
+pub piece-take : (n : ℕ) (s : List ℕ) (p : ℕ) → p + n ≤ length s → piece n s p ≡ take n (drop p s)
+unfolding piece
+piece-take zero s p h = refl
+piece-take (suc n) s p h = rw (drop-cons s p 0 (omega arith), piece-take n s (suc p) (omega arith))

@@ -14,7 +14,7 @@ use Rattle.reversal.proofs.Shortest.{chosen-linked, least-chain}
 use Rattle.assembly.specs.Fields.{Fields, FieldsOf}
 use Rattle.assembly.specs.Rules.{Numbered}
 use Rattle.assembly.specs.ChainFollowed.{followed, Steps, planIn, legBytes, legsIn}
-use Rattle.assembly.specs.Assembles.{legsBytes}
+use Rattle.assembly.specs.Lent.{legsBytes}
 
 module _ (R : Rule) (sound : (a j : ℕ) → a < R .count → T (R .fit a j) → (0 < R .k a) × (R .k a ≤ j))
     (F : Fields) (k : (a : ℕ) → a < R .count → F .k a ≡ R .k a) {i : ℕ} {fewest firsts : List ℕ} (num : Numbered R i fewest firsts) where

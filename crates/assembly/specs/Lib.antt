@@ -2,6 +2,7 @@ pub mod Believed
 pub mod Fields
 pub mod Rules
 pub mod ChainFollowed
+pub mod Lent
 pub mod Assembles
 pub mod Contract
 pub mod Demand

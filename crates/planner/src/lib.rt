@@ -8,25 +8,28 @@ ghost use mathlib.Core.Path.{_≡_};
 ghost use Prim.Native.Nat.{_≤_, _<_};
 ghost use lib.ListN.{length};
 ghost use lib.Seq.{sets};
+ghost use Rattle.book.specs.Lent.{lent};
 ghost use Rattle.reader.specs.Contract.{ReadAs};
 ghost use Rattle.checker.specs.Contract.{CheckAs};
 ghost use Rattle.writer.specs.Contract.{WriteAs};
 ghost use Rattle.assembly.specs.Contract.{AssembleAs};
-ghost use Rattle.assembly.specs.Assembles.{inBytes};
+ghost use Rattle.assembly.specs.Lent.{inBytes, allLent};
 ghost use Rattle.planner.specs.Structs.{inStructs};
 ghost use Rattle.planner.specs.Whole.{legAt, structsIn, WholeAs};
 ghost use Rattle.ridge.specs.Computed.{lookupOf};
 
 #[no_mangle]
 pub extern "C" fn rollback_read(book: &[u8], table: &mut [u64], slots: &mut [u8]) -> Reading
-    ensures { λ r. ⌜ ReadAs (now (book .entry)) (now (table .entry)) (now (slots .entry)) r (now (table .exit)) (now (slots .exit)) ⌝ }
+    ensures { λ r. ⌜ ReadAs (now (book .entry)) (lent (now (table .entry)) (now (slots .entry))) r
+        (lent (now (table .exit)) (now (slots .exit))) ⌝ }
 {
     reader::read(book, table, slots)
 }
 
 #[no_mangle]
 pub extern "C" fn rollback_check(book: &[u8], table: &mut [u64], slots: &mut [u8]) -> Reading
-    ensures { λ r. ⌜ CheckAs (now (book .entry)) (now (table .entry)) (now (slots .entry)) r (now (table .exit)) (now (slots .exit)) ⌝ }
+    ensures { λ r. ⌜ CheckAs (now (book .entry)) (lent (now (table .entry)) (now (slots .entry))) r
+        (lent (now (table .exit)) (now (slots .exit))) ⌝ }
 {
     checker::check(book, table, slots)
 }
@@ -40,7 +43,9 @@ pub extern "C" fn rollback_assemble(
     plan: &mut [u8],
     legs: &mut [u8],
 ) -> Assembly
-    ensures { λ r. ⌜ AssembleAs inBytes (now (book .entry)) (now (run .entry)) (now (table .entry)) (now (slots .entry)) (now (plan .entry)) (now (legs .entry)) r (now (table .exit)) (now (slots .exit)) (now (plan .exit)) (now (legs .exit)) ⌝ }
+    ensures { λ r. ⌜ AssembleAs inBytes (now (book .entry)) (now (run .entry))
+        (allLent (lent (now (table .entry)) (now (slots .entry))) (now (plan .entry)) (now (legs .entry))) r
+        (allLent (lent (now (table .exit)) (now (slots .exit))) (now (plan .exit)) (now (legs .exit))) ⌝ }
 {
     assembly::assemble(book, run, table, slots, plan, legs)
 }
@@ -90,7 +95,9 @@ fn assemble_whole(
     plan: &mut [u8],
     room: usize,
 ) -> Whole
-    ensures { λ r. ⌜ WholeAs (now (book .entry)) (now (run .entry)) (now (table .entry)) (now (slots .entry)) (now (plan .entry)) room r (now (table .exit)) (now (slots .exit)) (now (plan .exit)) ⌝ }
+    ensures { λ r. ⌜ WholeAs (now (book .entry)) (now (run .entry))
+        (lent (now (table .entry)) (now (slots .entry))) (now (plan .entry)) room r
+        (lent (now (table .exit)) (now (slots .exit))) (now (plan .exit)) ⌝ }
 {
     let mut bytes = [0u8; 96];
     if room < 32 {
@@ -157,7 +164,9 @@ pub extern "C" fn rollback_assemble_legs(
     plan: &mut [u8],
     legs: &mut [Leg],
 ) -> Assembly
-    ensures { λ r. ⌜ AssembleAs inStructs (now (book .entry)) (now (run .entry)) (now (table .entry)) (now (slots .entry)) (now (plan .entry)) (now (legs .entry)) r (now (table .exit)) (now (slots .exit)) (now (plan .exit)) (now (legs .exit)) ⌝ }
+    ensures { λ r. ⌜ AssembleAs inStructs (now (book .entry)) (now (run .entry))
+        (allLent (lent (now (table .entry)) (now (slots .entry))) (now (plan .entry)) (now (legs .entry))) r
+        (allLent (lent (now (table .exit)) (now (slots .exit))) (now (plan .exit)) (now (legs .exit))) ⌝ }
 {
     let w = assemble_whole(book, run, table, slots, plan, legs.len());
     fill_legs(legs, w);

@@ -1,17 +1,18 @@
--- The tests of 01's limits pass exactly where a device, or an item, is allowed. Assumes nothing.
+-- The tests of 01's limits pass exactly where a device, a move or an item is allowed. Assumes nothing.
 use mathlib.Core.Path.{_≡_, refl, sym, ap}
 use mathlib.Core.Bool.{Bool, true, false, not, false≢true}
 use Prim.Native.Nat.{ℕ, _≤_}
+use native.Mathlib.Omega.{arith}
 use lib.ListN.{length}
 use Rattle.base.specs.Tests.{pick}
-use Rattle.base.specs.Compare.{less}
+use Rattle.base.specs.Compare.{less, atMost, same}
 use Rattle.base.specs.Masks.{clearFrom}
-use Rattle.base.proofs.Compare.{less-off}
+use Rattle.base.proofs.Compare.{less-off, most-off, same-off}
 use Rattle.base.proofs.Picks.{tests}
 use Rattle.reversal.specs.Device.{Device}
 use Rattle.reversal.specs.Reversal.{Item, AllowedItem}
-use Rattle.book.specs.Book.{AllowedDevice}
-use Rattle.book.specs.Limits.{deviceFine, countsFine, allBelow, fieldsFine}
+use Rattle.book.specs.Book.{Move, AllowedDevice, AllowedMove}
+use Rattle.book.specs.Limits.{deviceFine, moveFine, countsFine, allBelow, fieldsFine}
 use Rattle.book.proofs.Fields.{all-of, all-on, clear-of, clear-on}
 
 -- a test that must fail, and what is tested after it
@@ -38,6 +39,30 @@ module _ (n m : ℕ) where
       let (c, e₃) = past (less m 1) _ e₂ in
       let (d, _) = past (less 32 m) _ e₃ in
       record { n-low = less-off n 1 a; n-high = less-off 64 n b; m-low = less-off m 1 c; m-high = less-off 32 m d }
+
+-- ---- a move
+module _ (n m : ℕ) (x : Move) where
+  pub move-of : AllowedMove n m x → moveFine n m x ≡ true
+  unfolding moveFine
+  move-of a =
+      let some : x .mask ≡ 0 → ⊥ = omega arith in
+      let w : not (clearFrom n (x .mask)) ≡ false = ap not (clear-of n (x .mask) (a .states)) in
+      sym (search tests)
+
+  pub move-on : moveFine n m x ≡ true → AllowedMove n m x
+  unfolding moveFine
+  move-on e =
+      let (a, e₁) = past (atMost n (x .state)) _ e in
+      let (b, e₂) = past (atMost m (x .command)) _ e₁ in
+      let (c, e₃) = past (same (x .mask) 0) _ e₂ in
+      let (d, _) = past (not (clearFrom n (x .mask))) _ e₃ in
+      let nonzero : x .mask ≡ 0 → ⊥ = same-off (x .mask) 0 c in
+      record {
+        known-state = most-off n (x .state) a;
+        known-command = most-off m (x .command) b;
+        some = omega arith;
+        states = clear-on n (x .mask) (not-off _ d);
+      }
 
 -- ---- the numbers of an item's commands
 module _ (k r : ℕ) where

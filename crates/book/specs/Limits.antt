@@ -1,16 +1,23 @@
--- 01's limits of a device and of an item, computed: the tests that reading, writing and every other call make. proofs/Limits ties them to
--- `AllowedDevice` and `AllowedItem`, both ways. Assumes nothing: these are definitions.
+-- 01's limits of a device, a move and an item, computed: the tests that reading, writing and every other call make. proofs/Limits ties them to
+-- `AllowedDevice`, `AllowedMove` and `AllowedItem`, both ways. Assumes nothing: these are definitions.
 use mathlib.Core.Bool.{Bool, true, false, not}
 use mathlib.Core.List.{List, [], _∷_}
 use Prim.Native.Nat.{ℕ}
 use Rattle.base.specs.Tests.{pick}
-use Rattle.base.specs.Compare.{less}
+use Rattle.base.specs.Compare.{less, atMost, same}
 use Rattle.base.specs.Masks.{clearFrom}
 use Rattle.reversal.specs.Reversal.{Item}
+use Rattle.book.specs.Book.{Move}
 
 -- n and m
 unfoldable pub deviceFine : ℕ → ℕ → Bool
 deviceFine n m = pick (less n 1) false (pick (less 64 n) false (pick (less m 1) false (pick (less 32 m) false true)))
+
+-- a move's state, command and mask, for a device with n states and m commands
+unfoldable pub moveFine : ℕ → ℕ → Move → Bool
+moveFine n m x =
+    pick (atMost n (x .state)) false
+    (pick (atMost m (x .command)) false (pick (same (x .mask) 0) false (pick (not (clearFrom n (x .mask))) false true)))
 
 -- the numbers of an item's commands
 unfoldable pub countsFine : ℕ → ℕ → Bool
@@ -31,3 +38,7 @@ fieldsFine n m x =
 -- the item of these fields
 abbrev pub itemWith : List ℕ → List ℕ → ℕ → ℕ → Item
 itemWith forward reverse phi psi = record { forward = forward; reverse = reverse; phi = phi; psi = psi }
+
+-- the move of these fields
+abbrev pub moveWith : ℕ → ℕ → ℕ → Move
+moveWith state command mask = record { state = state; command = command; mask = mask }

@@ -18,8 +18,8 @@ use Rattle.reversal.specs.Twelve.{made, itemsQ}
 use Rattle.reversal.specs.Computed.Sets.{after, able, reach, runsBack, ends, startOk, accepts}
 use Rattle.reversal.proofs.Cases.{twelve}
 use Rattle.book.specs.Book.{Book, outcomeOf, frame, bytesOf}
-use Rattle.book.specs.Parse.{parse, cutAfter, scan, step, moveOf, itemOf, movesIn, itemsIn}
-use Rattle.book.specs.Limits.{allBelow}
+use Rattle.book.specs.Parse.{parse, cutAfter, scan, kindOf, step, moveOf, itemOf, movesIn, itemsIn}
+use Rattle.book.specs.Limits.{deviceFine, moveFine, countsFine, allBelow, fieldsFine}
 use Rattle.book.specs.Parse.Parsed.{Ok}
 use Rattle.book.specs.Example.{bookQ, bytesQ}
 use Rattle.book.proofs.Fields.{all-on}
@@ -52,7 +52,7 @@ bookQ3 : Book
 bookQ3 = record { n = 3; m = 3; moves = bookQ .moves; items = bookQ .items ++ (made (2 ∷ []) (2 ∷ []) 7 7 ∷ []) }
 
 pub q-checked : QChecked
-unfolding pick both imp less atMost same differ all union seek member clearFrom bytesLe frame outcomeOf after able reach runsBack ends startOk accepts wrongItem parse cutAfter scan step allBelow moveOf itemOf movesIn itemsIn bookQ2 bookQ3
+unfolding pick both imp less atMost same differ all union seek member clearFrom bytesLe frame outcomeOf after able reach runsBack ends startOk accepts wrongItem parse cutAfter scan kindOf step deviceFine moveFine countsFine allBelow fieldsFine moveOf itemOf movesIn itemsIn bookQ2 bookQ3
 q-checked =
     record {
       q1 = record { result = λ x long. checked-fine bytes-Q x long accepted-Q .0 };

@@ -1,6 +1,6 @@
 -- A row of commands judged one by one: what is left decides the whole. Assumes nothing.
 use mathlib.Core.Path.{_≡_, sym, ap, _∙_}
-use mathlib.Core.Bool.{Bool, true, false, not}
+use mathlib.Core.Bool.{true, false}
 use mathlib.Core.List.{List, _∷_}
 use Prim.Native.Nat.{ℕ, suc, _+_, _≤_, _<_}
 use native.Mathlib.Numerals.{add-one}
@@ -34,14 +34,3 @@ module _ (m : ℕ) (cs : List ℕ) where
   pub below-done : (i : ℕ) → allBelow m (drop i cs) ≡ allBelow m cs → length cs ≤ i → true ≡ allBelow m cs
   unfolding allBelow
   below-done i e l = rw (drop-of-length-le cs l) at e
-
--- ---- tests one after the other, each by a call that answered b
-pub refused : (t b rest : Bool) → b ≡ t → not b ≡ true → false ≡ pick (not t) false rest
-unfolding pick
-refused t b rest e h = rw (← e, h)
-
-pub passed : (t b v rest : Bool) → b ≡ t → not b ≡ false → v ≡ rest → v ≡ pick (not t) false rest
-unfolding pick
-passed t b v rest e h q = rw (← e, h) q
-
-pub ruleset judged = (refused, passed)

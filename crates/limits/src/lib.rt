@@ -1,8 +1,8 @@
-// 01's limits of a device and of an item, each judged by one function for reading, writing and every other call.
+// 01's limits of a device, a move and an item, each judged by one function for reading, writing and every other call.
 use states::StateSet;
 ghost use mathlib.Core.Path.{_≡_};
 ghost use Rattle.base.specs.Masks.{clearFrom};
-ghost use Rattle.book.specs.Limits.{deviceFine, countsFine, allBelow, fieldsFine, itemWith};
+ghost use Rattle.book.specs.Limits.{deviceFine, moveFine, moveWith, countsFine, allBelow, fieldsFine, itemWith};
 
 // Whether there are such devices: n from 1 to 64, m from 1 to 32.
 pub fn device_fine(n: u64, m: u64) -> bool
@@ -18,6 +18,32 @@ pub fn device_fine(n: u64, m: u64) -> bool
         return false;
     }
     if 32 < m {
+        return false;
+    }
+    true
+}
+
+// Whether a mask has no bit at n or above.
+pub fn mask_fine(mask: u64, n: u64) -> bool
+    ensures { λ r. ⌜ r ≡ clearFrom n mask ⌝ }
+{
+    StateSet::of(mask).clear_from(n)
+}
+
+// Whether a device with n states and m commands may have this move.
+pub fn move_fine(state: u64, command: u64, mask: u64, n: u64, m: u64) -> bool
+    ensures { λ r. ⌜ r ≡ moveFine n m (moveWith state command mask) ⌝ }
+{
+    if n <= state {
+        return false;
+    }
+    if m <= command {
+        return false;
+    }
+    if mask == 0 {
+        return false;
+    }
+    if !mask_fine(mask, n) {
         return false;
     }
     true
@@ -49,13 +75,6 @@ pub fn all_below(commands: &[u8], m: u64) -> bool
         }
     }
     true
-}
-
-// Whether a mask has no bit at n or above.
-pub fn mask_fine(mask: u64, n: u64) -> bool
-    ensures { λ r. ⌜ r ≡ clearFrom n mask ⌝ }
-{
-    StateSet::of(mask).clear_from(n)
 }
 
 // Whether an item's commands are below m and its masks have no bit at n or above.

@@ -8,7 +8,7 @@ use Rattle.book.specs.declared.Step.{Step}
 use Rattle.book.specs.declared.Step.the-variants.{Go, Stop}
 use Rattle.book.specs.declared.Scan.{Scan}
 use Rattle.book.specs.declared.Scan.the-variants.{Read, Fault}
-use Rattle.book.specs.Book.{Move, Rec}
+use Rattle.book.specs.Book.{Rec}
 
 -- a state's numbers are within 01's limits
 pub record Limits (st : State) : Type 0 where
@@ -31,9 +31,6 @@ pub record Counted (body : List ℕ) (k r : ℕ) : Type 0 where
   pub k-high : k ≤ 8
   pub r-high : r ≤ 8
   pub size : length body ≡ 18 + k + r
-
-abbrev pub moved : ℕ → ℕ → ℕ → Move
-moved state command mask = record { state = state; command = command; mask = mask }
 
 abbrev pub rec : ℕ → List ℕ → Rec
 rec kind body = record { kind = kind; body = body }

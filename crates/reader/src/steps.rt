@@ -1,17 +1,35 @@
 // The judgement of one record.
+use book::Kind;
+use book::Numbered;
 use book::State;
 use book::Step;
-use states::StateSet;
 ghost use mathlib.Core.Path.{_≡_};
-ghost use Prim.Native.Nat.{_<_};
-ghost use lib.ListN.{length, getD, drop};
-ghost use Rattle.book.specs.Parse.{firstOf, deviceTests, deviceNext, moveTests, moveNext, itemTests, itemNext, itemOf, step};
-ghost use Rattle.book.specs.Limits.{allBelow};
-ghost use Rattle.reader.specs.Judged.{Limits, Bounded, Counted, moved, rec};
+ghost use Prim.Native.Nat.{_+_, _≤_};
+ghost use lib.ListN.{length};
+ghost use Rattle.book.specs.declared.Kind.the-variants.{ADevice, AMove, AnItem};
+ghost use Rattle.book.specs.Limits.{fieldsFine};
+ghost use Rattle.book.specs.Parse.{kindOf, itemOf, judgedAs, step};
+ghost use Rattle.reader.specs.Judged.{Limits, Bounded, Counted, rec};
+
+// The kind with this number.
+fn kind_of(number: u64) -> Numbered
+    ensures { λ r. ⌜ r ≡ kindOf number ⌝ }
+{
+    if number == 1 {
+        return Numbered::Of(Kind::ADevice);
+    }
+    if number == 2 {
+        return Numbered::Of(Kind::AMove);
+    }
+    if number == 3 {
+        return Numbered::Of(Kind::AnItem);
+    }
+    Numbered::Unknown
+}
 
 // A device record: n and m.
 fn device_step(st: State, body: &[u8]) -> Step
-    ensures { λ r. ⌜ r ≡ firstOf (deviceTests st (now (body .entry))) (deviceNext (now (body .entry))) ⌝ }
+    ensures { λ r. ⌜ r ≡ judgedAs ADevice st (now (body .entry)) ⌝ }
     ensures { λ r. ⌜ Bounded r ⌝ }
 {
     if st.phase != 0 {
@@ -22,16 +40,7 @@ fn device_step(st: State, body: &[u8]) -> Step
     }
     let n = octets::byte_at(body, 0);
     let m = octets::byte_at(body, 1);
-    if n < 1 {
-        return Step::Stop(5);
-    }
-    if 64 < n {
-        return Step::Stop(5);
-    }
-    if m < 1 {
-        return Step::Stop(5);
-    }
-    if 32 < m {
+    if !limits::device_fine(n, m) {
         return Step::Stop(5);
     }
     Step::Go(State {
@@ -43,28 +52,22 @@ fn device_step(st: State, body: &[u8]) -> Step
     })
 }
 
-// A move record with these numbers.
-fn move_step(st: State, len: usize, state: u64, command: u64, mask: u64) -> Step
-    requires { ⌜ Limits st × (state < 256) × (command < 256) ⌝ }
-    ensures { λ r. ⌜ r ≡ firstOf (moveTests st len (moved state command mask)) (moveNext st (moved state command mask)) ⌝ }
+// A move record: state, command and mask.
+fn move_step(st: State, body: &[u8]) -> Step
+    requires { ⌜ Limits st ⌝ }
+    ensures { λ r. ⌜ r ≡ judgedAs AMove st (now (body .entry)) ⌝ }
     ensures { λ r. ⌜ Bounded r ⌝ }
 {
     if st.phase != 1 {
         return Step::Stop(3);
     }
-    if len != 10 {
+    if body.len() != 10 {
         return Step::Stop(4);
     }
-    if st.n <= state {
-        return Step::Stop(5);
-    }
-    if st.m <= command {
-        return Step::Stop(5);
-    }
-    if mask == 0 {
-        return Step::Stop(5);
-    }
-    if !StateSet::of(mask).clear_from(st.n) {
+    let state = octets::byte_at(body, 0);
+    let command = octets::byte_at(body, 1);
+    let mask = octets::u64_at(body, 2);
+    if !limits::move_fine(state, command, mask, st.n, st.m) {
         return Step::Stop(5);
     }
     let index = state * st.m + command;
@@ -80,51 +83,20 @@ fn move_step(st: State, len: usize, state: u64, command: u64, mask: u64) -> Step
     })
 }
 
-// Whether each of the commands is below m.
-fn all_below(commands: &[u8], m: u64) -> bool
-    ensures { λ r. ⌜ r ≡ allBelow m (now (commands .entry)) ⌝ }
+// Whether an item record's commands and masks are within the limits, after its counts and its length were judged.
+fn item_fine(body: &[u8], k: usize, r: usize, n: u64, m: u64) -> bool
+    requires { ⌜ Counted (now body) k r ⌝ }
+    ensures { λ x. ⌜ x ≡ fieldsFine n m (itemOf (now (body .entry))) ⌝ }
 {
-    for i in 0..commands.len() {
-        if m <= octets::byte_at(commands, i) {
-            return false;
-        }
-    }
-    true
-}
-
-// An item record's commands and masks, after its counts and its length were judged.
-fn fields_step(st: State, body: &[u8], k: usize, r: usize) -> Step
-    requires { ⌜ Limits st × (st .items < 64) × Counted (now body) k r ⌝ }
-    ensures { λ x. ⌜ x ≡ firstOf (drop 7 (itemTests st (length (now (body .entry))) k r (itemOf (now (body .entry))))) (itemNext st) ⌝ }
-    ensures { λ x. ⌜ Bounded x ⌝ }
-{
-    if !all_below(&body[2..2 + k], st.m) {
-        return Step::Stop(5);
-    }
-    if !all_below(&body[2 + k..2 + k + r], st.m) {
-        return Step::Stop(5);
-    }
     let phi = octets::u64_at(body, 2 + k + r);
-    if !StateSet::of(phi).clear_from(st.n) {
-        return Step::Stop(5);
-    }
     let psi = octets::u64_at(body, 10 + k + r);
-    if !StateSet::of(psi).clear_from(st.n) {
-        return Step::Stop(5);
-    }
-    Step::Go(State {
-        phase: 2,
-        n: st.n,
-        m: st.m,
-        low: st.low,
-        items: st.items + 1,
-    })
+    limits::fields_fine(&body[2..2 + k], &body[2 + k..2 + k + r], phi, psi, n, m)
 }
 
 // An item record.
 fn item_step(st: State, body: &[u8]) -> Step
     requires { ⌜ Limits st ⌝ }
-    ensures { λ x. ⌜ x ≡ firstOf (itemTests st (length (now (body .entry))) (getD (now (body .entry)) 0 0) (getD (now (body .entry)) 1 0) (itemOf (now (body .entry)))) (itemNext st) ⌝ }
+    ensures { λ x. ⌜ x ≡ judgedAs AnItem st (now (body .entry)) ⌝ }
     ensures { λ x. ⌜ Bounded x ⌝ }
 {
     if st.phase < 1 {
@@ -136,43 +108,38 @@ fn item_step(st: State, body: &[u8]) -> Step
     if body.len() < 2 {
         return Step::Stop(4);
     }
-    let k = octets::byte_at(body, 0) as usize;
-    let r = octets::byte_at(body, 1) as usize;
-    if k < 1 {
+    let k = octets::byte_at(body, 0);
+    let r = octets::byte_at(body, 1);
+    if !limits::counts_fine(k, r) {
         return Step::Stop(5);
     }
-    if 8 < k {
-        return Step::Stop(5);
-    }
-    if 8 < r {
-        return Step::Stop(5);
-    }
-    if body.len() != 18 + k + r {
+    if body.len() != 18 + k as usize + r as usize {
         return Step::Stop(4);
     }
-    fields_step(st, body, k, r)
+    if !item_fine(body, k as usize, r as usize, st.n, st.m) {
+        return Step::Stop(5);
+    }
+    Step::Go(State {
+        phase: 2,
+        n: st.n,
+        m: st.m,
+        low: st.low,
+        items: st.items + 1,
+    })
 }
 
 // The first fault of a record that stands where reading is, or where reading is after it.
-pub(crate) fn record_step(st: State, kind: u64, body: &[u8]) -> Step
+pub(crate) fn record_step(st: State, number: u64, body: &[u8]) -> Step
     requires { ⌜ Limits st ⌝ }
-    ensures { λ x. ⌜ x ≡ step st (rec kind (now (body .entry))) ⌝ }
+    ensures { λ x. ⌜ x ≡ step st (rec number (now (body .entry))) ⌝ }
     ensures { λ x. ⌜ Bounded x ⌝ }
 {
-    if kind == 1 {
-        return device_step(st, body);
+    match kind_of(number) {
+        Numbered::Unknown => Step::Stop(3),
+        Numbered::Of(kind) => match kind {
+            Kind::ADevice => device_step(st, body),
+            Kind::AMove => move_step(st, body),
+            Kind::AnItem => item_step(st, body),
+        },
     }
-    if kind == 2 {
-        return move_step(
-            st,
-            body.len(),
-            octets::byte_at(body, 0),
-            octets::byte_at(body, 1),
-            octets::u64_at(body, 2),
-        );
-    }
-    if kind == 3 {
-        return item_step(st, body);
-    }
-    Step::Stop(3)
 }

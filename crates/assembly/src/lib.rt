@@ -25,7 +25,7 @@ pub struct Assembly {
 }
 
 // A refusal, whose counts are 0 and whose numbers are all 65,535.
-fn refused(code: u64, place: u64) -> Assembly
+pub fn refused(code: u64, place: u64) -> Assembly
     ensures { λ r. ⌜ r ≡ refusal code place ⌝ }
 {
     Assembly {

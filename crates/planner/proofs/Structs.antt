@@ -84,14 +84,14 @@ chain-structs ls h =
 
 -- ---- assembling with bytes
 module _ {book run : List ℕ} {read : Lent} {plan : List ℕ} {room : ℕ} (bytes : List ℕ) (h : Each (λ x. x < 256) book) (u : Each (λ x. x < 256) run) where
-  pub whole-short : room < 32 → WholeAs book run read plan room (record { result = refusal 1 0; bytes = bytes; count = 0 }) read plan
-  whole-short l =
+  pub whole-short : room < 32 → {r : Assembly} → r ≡ refusal 1 0 → WholeAs book run read plan room (record { result = r; bytes = bytes; count = 0 }) read plan
+  whole-short l e =
       record {
         book-bytes = h;
         run-bytes = u;
-        short = λ _. (refl, refl, refl);
+        short = λ _. (e, refl, refl);
         enough = λ k. absurd (omega arith);
-        counted = refl;
+        counted = sym (ap (λ (x : Assembly). x .legs) e);
         within = (omega arith, omega arith);
       }
 

@@ -101,15 +101,8 @@ fn assemble_whole(
 {
     let mut bytes = [0u8; 96];
     if room < 32 {
-        let refused = Assembly {
-            code: 1,
-            place: 0,
-            commands: 0,
-            legs: 0,
-            fewest: [65535u16; 33],
-        };
         return Whole {
-            result: refused,
+            result: assembly::refused(1, 0),
             bytes: bytes,
             count: 0,
         };
@@ -123,11 +116,10 @@ fn assemble_whole(
 }
 
 // The leg of the three bytes from 3 * i on.
-fn leg_of(w: Whole, i: usize) -> Leg
+fn leg_of(s: [u8; 96], i: usize) -> Leg
     requires { ⌜ i < 32 ⌝ }
-    ensures { λ r. ⌜ r ≡ legAt (w .bytes) i ⌝ }
+    ensures { λ r. ⌜ r ≡ legAt s i ⌝ }
 {
-    let s = w.bytes;
     Leg {
         item: s[3 * i],
         upper: s[3 * i + 1],
@@ -149,7 +141,7 @@ fn fill_legs(legs: &mut [Leg], w: Whole)
     let n = w.count;
     let mut i: usize = 0;
     while i < n {
-        legs[i] = leg_of(w, i);
+        legs[i] = leg_of(w.bytes, i);
         i = i + 1;
     }
 }

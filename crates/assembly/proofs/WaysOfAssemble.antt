@@ -10,11 +10,13 @@ use Rattle.base.specs.Lists.{Bytes}
 use Rattle.base.proofs.Picks as picks
 use Rattle.base.proofs.Lists.{each-at}
 use Rattle.reversal.specs.Device.{Device, tabled}
-use Rattle.reversal.specs.Reversal.{AllowedItem}
+use Rattle.reversal.specs.Reversal.{Item, AllowedItem}
 use Rattle.reversal.specs.Runs.{AllowedRun, last}
 use Rattle.reversal.specs.Chains.{absent, none}
 use Rattle.reversal.specs.Answers.{Allowed, Answer}
 use Rattle.book.specs.Book.{Book, deviceOf}
+use Rattle.book.specs.Slots.{itemAt}
+use Rattle.book.proofs.Slots.{slot-holds}
 use Rattle.book.proofs.Device.{device-proper, tabled-device}
 use Rattle.reader.specs.declared.Reading.{Reading}
 use Rattle.checker.specs.Contract.{checkBy, CheckAs}
@@ -25,13 +27,12 @@ use Rattle.runs.proofs.Formed.{run-value}
 use Rattle.assembly.specs.declared.Assembly.{Assembly}
 use Rattle.assembly.specs.declared.chain.Counts.{Counts}
 use Rattle.assembly.specs.Believed.{Believed}
-use Rattle.assembly.specs.Fields.{FieldsOf, inSlots}
+use Rattle.assembly.specs.Items.{ItemsOf}
 use Rattle.assembly.specs.Rules.{ruleOf, Moving, Numbered}
 use Rattle.assembly.specs.ChainFollowed.{Walkable, Walked}
 use Rattle.assembly.specs.Assembles.{refusal, resultOf, legsBytes, inBytes, Room}
 use Rattle.assembly.specs.Contract.{answerOf, plannedBy, roomBy, assembleBy, AssembleAs}
 use Rattle.assembly.proofs.Room.{room-enough}
-use Rattle.assembly.proofs.SlotsOfBook.{slots-hold}
 use Rattle.assembly.proofs.AnswerReached as reached
 use Rattle.assembly.proofs.AnswerReached.{Stored}
 
@@ -104,13 +105,13 @@ module _ {book run t d plan legs : List ℕ} {f : Reading} {t′ d′ : List ℕ
         let d = g .accepted .allowed .device in
         (omega (arith, n-is, d .n-high), omega (arith, m-is, d .m-high), omega (arith, items-is, g .accepted .allowed .few))
 
-    fields : FieldsOf (b .items) (inSlots d′)
-    fields = subst (λ (s : List ℕ). FieldsOf (b .items) (inSlots s)) (sym (g .slots)) (slots-hold b (g .accepted .allowed) d (g .long .1))
+    fields : ItemsOf (b .items) (itemAt d′)
+    fields = subst (λ (s : List ℕ). ItemsOf (b .items) (itemAt s)) (sym (g .slots)) (slot-holds b d (g .accepted .allowed) (g .long .1))
 
-    pub movable : Moving (inSlots d′) (f .items)
+    pub movable : Moving (itemAt d′) (f .items)
     movable a l =
         let known = subst (λ (n : ℕ). a < n) items-is l in
-        omega (arith, fields .k-is a known, each-at (AllowedItem (deviceOf b)) (b .items) (g .accepted .allowed .each-item) a absent known .some)
+        omega (arith, ap (λ (x : Item). length (x .forward)) (fields a known), each-at (AllowedItem (deviceOf b)) (b .items) (g .accepted .allowed .each-item) a absent known .some)
 
     device-is : tabled (f .n) (f .m) t′ ≡ deviceOf b
     device-is =
@@ -171,7 +172,7 @@ module _ {book run t d plan legs : List ℕ} {f : Reading} {t′ d′ : List ℕ
     held = subst (λ (v : Device). Believed v (runOf run) beliefs) (device-is h z) believed
 
     pub no-state : getD beliefs 0 0 ≡ 0 → {r : Assembly} → r ≡ refusal 10 0 → AssembleAs inBytes book run t d plan legs r t′ d′ plan legs
-    no-state s p = answered (reached.no-state (deviceOf B) (B .items) run allowed (inSlots d′) (fields h z) beliefs held plan legs s p)
+    no-state s p = answered (reached.no-state (deviceOf B) (B .items) run allowed (itemAt d′) (fields h z) beliefs held plan legs s p)
 
 -- ---- some state is possible and the numbers are known
 pub record NumbersKnown (beliefs : List ℕ) (i : ℕ) (fewest firsts : List ℕ) (book run t d plan legs : List ℕ) (f : Reading) (t′ d′ : List ℕ) : Type 0 where
@@ -179,7 +180,7 @@ pub record NumbersKnown (beliefs : List ℕ) (i : ℕ) (fewest firsts : List ℕ
   pub believed : Believed (tabled (f .n) (f .m) t′) (runOf run) beliefs
   pub some : getD beliefs 0 0 ≡ 0 → ⊥
   pub last-point : i ≡ lastOf run
-  pub num : Numbered (ruleOf (inSlots d′) run beliefs (f .items)) i fewest firsts
+  pub num : Numbered (ruleOf (itemAt d′) run beliefs (f .items)) i fewest firsts
 
 module _ {beliefs : List ℕ} {i : ℕ} {fewest firsts book run t d plan legs : List ℕ} {f : Reading} {t′ d′ : List ℕ}
     (k : NumbersKnown beliefs i fewest firsts book run t d plan legs f t′ d′) where
@@ -189,8 +190,8 @@ module _ {beliefs : List ℕ} {i : ℕ} {fewest firsts book run t d plan legs : 
   i-is : i ≡ last (runOf run)
   i-is = k .last-point ∙ last-is run
 
-  num′ : Numbered (ruleOf (inSlots d′) run beliefs (length (B w .items))) (last (runOf run)) fewest firsts
-  num′ = subst₂ (λ (n j : ℕ). Numbered (ruleOf (inSlots d′) run beliefs n) j fewest firsts) (items-is (h w) (z w)) i-is (k .num)
+  num′ : Numbered (ruleOf (itemAt d′) run beliefs (length (B w .items))) (last (runOf run)) fewest firsts
+  num′ = subst₂ (λ (n j : ℕ). Numbered (ruleOf (itemAt d′) run beliefs n) j fewest firsts) (items-is (h w) (z w)) i-is (k .num)
 
   number-is : getD fewest i 0 ≡ getD fewest (last (runOf run)) 0
   number-is = ap (λ (j : ℕ). getD fewest j 0) i-is
@@ -199,19 +200,19 @@ module _ {beliefs : List ℕ} {i : ℕ} {fewest firsts book run t d plan legs : 
       → AssembleAs inBytes book run t d plan legs (record { code = 11; place = 0; commands = 0; legs = 0; fewest = fewest }) t′ d′ plan legs
   no-number s =
       answered w
-      (reached.no-chain (deviceOf (B w)) (B w .items) run (allowed w) (inSlots d′) (fields (h w) (z w)) beliefs (held w (k .believed)) plan legs (k .some) num′
+      (reached.no-chain (deviceOf (B w)) (B w .items) run (allowed w) (itemAt d′) (fields (h w) (z w)) beliefs (held w (k .believed)) plan legs (k .some) num′
       (sym number-is ∙ s))
 
   module _ (number : getD fewest i 0 ≡ none → ⊥) where
-    pub can-walk : Walkable (inSlots d′) firsts i
+    pub can-walk : Walkable (itemAt d′) firsts i
     can-walk =
-        subst (Walkable (inSlots d′) firsts) (sym i-is)
-        (reached.walkable (deviceOf (B w)) (B w .items) run (allowed w) (inSlots d′) (fields (h w) (z w)) beliefs (held w (k .believed)) plan legs (k .some) num′
+        subst (Walkable (itemAt d′) firsts) (sym i-is)
+        (reached.walkable (deviceOf (B w)) (B w .items) run (allowed w) (itemAt d′) (fields (h w) (z w)) beliefs (held w (k .believed)) plan legs (k .some) num′
         (λ e. number (number-is ∙ e)))
 
-    pub written : {counts : Counts} {plan′ legs′ : List ℕ} → Walked (inSlots d′) firsts i plan legs counts plan′ legs′
+    pub written : {counts : Counts} {plan′ legs′ : List ℕ} → Walked (itemAt d′) firsts i plan legs counts plan′ legs′
         → AssembleAs inBytes book run t d plan legs (record { code = 0; place = 0; commands = counts .commands; legs = counts .legs; fewest = fewest }) t′ d′ plan′ legs′
     written {counts} {plan′} {legs′} x =
         answered w
-        (reached.chain-stored (deviceOf (B w)) (B w .items) run (allowed w) (inSlots d′) (fields (h w) (z w)) beliefs (held w (k .believed)) plan legs (k .some) num′
-        (λ e. number (number-is ∙ e)) (subst (λ (j : ℕ). Walked (inSlots d′) firsts j plan legs counts plan′ legs′) i-is x))
+        (reached.chain-stored (deviceOf (B w)) (B w .items) run (allowed w) (itemAt d′) (fields (h w) (z w)) beliefs (held w (k .believed)) plan legs (k .some) num′
+        (λ e. number (number-is ∙ e)) (subst (λ (j : ℕ). Walked (itemAt d′) firsts j plan legs counts plan′ legs′) i-is x))

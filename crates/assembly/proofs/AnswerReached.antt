@@ -1,4 +1,4 @@
--- Of items whose fields the call reads and a run that is fine: what the numbers and the walk down the items leave is the answer. Assumes nothing.
+-- Of items that the call reads and a run that is fine: what the numbers and the walk down the items leave is the answer. Assumes nothing.
 use mathlib.Core.Path.{_≡_, refl, sym, ap, ap₂, _∙_, subst}
 use mathlib.Core.List.{List}
 use Prim.Native.Nat.{ℕ, _-_, _≤_, _<_}
@@ -23,13 +23,13 @@ use Rattle.runs.proofs.Points.{last-is, command-is}
 use Rattle.assembly.specs.declared.Assembly.{Assembly}
 use Rattle.assembly.specs.declared.chain.Counts.{Counts}
 use Rattle.assembly.specs.Believed.{Believed}
-use Rattle.assembly.specs.Fields.{Fields, FieldsOf}
+use Rattle.assembly.specs.Items.{Items, kOf, ItemsOf}
 use Rattle.assembly.specs.Rules.{ruleOf, Numbered}
 use Rattle.assembly.specs.ChainFollowed.{followed, Steps, planIn, legsIn, walk, Walkable, Walked}
 use Rattle.assembly.specs.Lent.{legsBytes, inBytes, Room}
 use Rattle.assembly.specs.Assembles.{refusal, resultOf}
 use Rattle.assembly.specs.Contract.{roomOf}
-use Rattle.assembly.proofs.RulesAgree.{numbered-same}
+use Rattle.assembly.proofs.RulesAgree.{Agree, numbered-same}
 use Rattle.assembly.proofs.ItemsFit.{rule-agrees}
 use Rattle.assembly.proofs.FollowedIsChosen.{followed-chosen, linked-known, plan-same, legs-same}
 
@@ -38,7 +38,7 @@ pub record Stored (a : Answer) (room : Room ℕ) (r : Assembly) (room′ : Room 
   pub result-is : r ≡ resultOf a
   pub room-is : room′ ≡ roomOf inBytes room a
 
-module _ (dev : Device) (items : List Item) (run : List ℕ) (allowed : Allowed dev items (runOf run)) (F : Fields) (fields : FieldsOf items F)
+module _ (dev : Device) (items : List Item) (run : List ℕ) (allowed : Allowed dev items (runOf run)) (F : Items) (fields : ItemsOf items F)
     (beliefs : List ℕ) (believed : Believed dev (runOf run) beliefs) (room : Room ℕ) where
   abbrev r : Run
   r = runOf run
@@ -65,10 +65,11 @@ module _ (dev : Device) (items : List Item) (run : List ℕ) (allowed : Allowed 
     possible : belief dev r 0 ≡ 0 → ⊥
     possible e = some (believed .each 0 (omega arith) ∙ e)
 
+    agrees : Agree i (ruleOf F run beliefs (length items)) Q
+    agrees = rule-agrees dev r items F fields run beliefs (λ y q. command-is run y (omega (arith, last-is run))) (believed .each)
+
     num : Numbered Q i fewest firsts
-    num =
-        numbered-same
-        (rule-agrees dev r items F fields run beliefs (λ y q. command-is run y (omega (arith, last-is run))) (believed .each)) fieldwise
+    num = numbered-same agrees fieldwise
 
     fewest-is : fewest ≡ numbers dev r items
     unfolding numbers
@@ -115,7 +116,7 @@ module _ (dev : Device) (items : List Item) (run : List ℕ) (allowed : Allowed 
       known = linked-known Q xs i (linked .0)
 
       walks : (followed F firsts i i ≡ xs) × Steps F firsts i i
-      walks = followed-chosen Q (sound dev items r allowed) F (fields .k-is) num i i (omega arith) (omega arith) below
+      walks = followed-chosen Q (sound dev items r allowed) F (agrees .k-same) num i i (omega arith) (omega arith) below
 
       plan-is : planIn F (walk F firsts i) ≡ planOf items xs
       plan-is = ap (planIn F) (walks .0) ∙ plan-same items F fields xs known

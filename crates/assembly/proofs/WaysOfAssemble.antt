@@ -11,12 +11,14 @@ use Rattle.base.specs.Shorter.{anyShort}
 use Rattle.base.proofs.Picks as picks
 use Rattle.base.proofs.Lists.{each-at}
 use Rattle.reversal.specs.Device.{Device, tabled}
-use Rattle.reversal.specs.Reversal.{AllowedItem}
+use Rattle.reversal.specs.Reversal.{Item, AllowedItem}
 use Rattle.reversal.specs.Runs.{AllowedRun, last}
 use Rattle.reversal.specs.Chains.{absent, none}
 use Rattle.reversal.specs.Answers.{Allowed, Answer}
 use Rattle.book.specs.Book.{Book, deviceOf}
 use Rattle.book.specs.Lent.{Lent}
+use Rattle.book.specs.Slots.{itemAt}
+use Rattle.book.proofs.Slots.{slot-holds}
 use Rattle.book.proofs.Device.{device-proper, tabled-device}
 use Rattle.reader.specs.declared.Reading.{Reading}
 use Rattle.checker.specs.Contract.{checkBy, CheckAs}
@@ -27,14 +29,13 @@ use Rattle.runs.proofs.Formed.{run-value}
 use Rattle.assembly.specs.declared.Assembly.{Assembly}
 use Rattle.assembly.specs.declared.chain.Counts.{Counts}
 use Rattle.assembly.specs.Believed.{Believed}
-use Rattle.assembly.specs.Fields.{FieldsOf, inSlots}
+use Rattle.assembly.specs.Items.{ItemsOf}
 use Rattle.assembly.specs.Rules.{ruleOf, Moving, Numbered}
 use Rattle.assembly.specs.ChainFollowed.{Walkable, Walked}
 use Rattle.assembly.specs.Lent.{inBytes, Room, AllLent, roomSizes, allSizes}
 use Rattle.assembly.specs.Assembles.{refusal, resultOf}
 use Rattle.assembly.specs.Contract.{answerOf, plannedBy, assembleBy, roomOf, AssembleAs}
 use Rattle.assembly.proofs.Room.{some-short, room-long}
-use Rattle.assembly.proofs.SlotsOfBook.{slots-hold}
 use Rattle.assembly.proofs.AnswerReached as reached
 use Rattle.assembly.proofs.AnswerReached.{Stored}
 
@@ -105,13 +106,13 @@ module _ {book run : List ℕ} {l : AllLent ℕ} {f : Reading} {read : Lent} (h 
         let d = g .accepted .allowed .device in
         (omega (arith, n-is, d .n-high), omega (arith, m-is, d .m-high), omega (arith, items-is, g .accepted .allowed .few))
 
-    fields : FieldsOf (b .items) (inSlots (read .slots))
-    fields = subst (λ (x : Lent). FieldsOf (b .items) (inSlots (x .slots))) (sym (g .buffers)) (slots-hold b (g .accepted .allowed) (l .read .slots) (g .long .1 .0))
+    fields : ItemsOf (b .items) (itemAt (read .slots))
+    fields = subst (λ (x : Lent). ItemsOf (b .items) (itemAt (x .slots))) (sym (g .buffers)) (slot-holds b (l .read .slots) (g .accepted .allowed) (g .long .1 .0))
 
-    pub movable : Moving (inSlots (read .slots)) (f .items)
+    pub movable : Moving (itemAt (read .slots)) (f .items)
     movable a l =
         let known = subst (λ (n : ℕ). a < n) items-is l in
-        omega (arith, fields .k-is a known, each-at (AllowedItem (deviceOf b)) (b .items) (g .accepted .allowed .each-item) a absent known .some)
+        omega (arith, ap (λ (x : Item). length (x .forward)) (fields a known), each-at (AllowedItem (deviceOf b)) (b .items) (g .accepted .allowed .each-item) a absent known .some)
 
     device-is : tabled (f .n) (f .m) (read .table) ≡ deviceOf b
     device-is =
@@ -170,7 +171,7 @@ module _ {book run : List ℕ} {l : AllLent ℕ} {f : Reading} {read : Lent} (w 
     held = subst (λ (v : Device). Believed v (runOf run) beliefs) (device-is h z) believed
 
     pub no-state : getD beliefs 0 0 ≡ 0 → {r : Assembly} → r ≡ refusal 10 0 → AssembleAs inBytes book run l r (left read (l .room))
-    no-state s p = answered (reached.no-state (deviceOf B) (B .items) run allowed (inSlots (read .slots)) (fields h z) beliefs held (l .room) s p)
+    no-state s p = answered (reached.no-state (deviceOf B) (B .items) run allowed (itemAt (read .slots)) (fields h z) beliefs held (l .room) s p)
 
 -- ---- some state is possible and the numbers are known
 pub record NumbersKnown (beliefs : List ℕ) (i : ℕ) (fewest firsts : List ℕ) (book run : List ℕ) (l : AllLent ℕ) (f : Reading) (read : Lent) : Type 0 where
@@ -178,7 +179,7 @@ pub record NumbersKnown (beliefs : List ℕ) (i : ℕ) (fewest firsts : List ℕ
   pub believed : Believed (tabled (f .n) (f .m) (read .table)) (runOf run) beliefs
   pub some : getD beliefs 0 0 ≡ 0 → ⊥
   pub last-point : i ≡ lastOf run
-  pub num : Numbered (ruleOf (inSlots (read .slots)) run beliefs (f .items)) i fewest firsts
+  pub num : Numbered (ruleOf (itemAt (read .slots)) run beliefs (f .items)) i fewest firsts
 
 module _ {beliefs : List ℕ} {i : ℕ} {fewest firsts book run : List ℕ} {l : AllLent ℕ} {f : Reading} {read : Lent}
     (k : NumbersKnown beliefs i fewest firsts book run l f read) where
@@ -188,8 +189,8 @@ module _ {beliefs : List ℕ} {i : ℕ} {fewest firsts book run : List ℕ} {l :
   i-is : i ≡ last (runOf run)
   i-is = k .last-point ∙ last-is run
 
-  num′ : Numbered (ruleOf (inSlots (read .slots)) run beliefs (length (B w .items))) (last (runOf run)) fewest firsts
-  num′ = subst₂ (λ (n j : ℕ). Numbered (ruleOf (inSlots (read .slots)) run beliefs n) j fewest firsts) (items-is (h w) (z w)) i-is (k .num)
+  num′ : Numbered (ruleOf (itemAt (read .slots)) run beliefs (length (B w .items))) (last (runOf run)) fewest firsts
+  num′ = subst₂ (λ (n j : ℕ). Numbered (ruleOf (itemAt (read .slots)) run beliefs n) j fewest firsts) (items-is (h w) (z w)) i-is (k .num)
 
   number-is : getD fewest i 0 ≡ getD fewest (last (runOf run)) 0
   number-is = ap (λ (j : ℕ). getD fewest j 0) i-is
@@ -198,19 +199,19 @@ module _ {beliefs : List ℕ} {i : ℕ} {fewest firsts book run : List ℕ} {l :
       → AssembleAs inBytes book run l (record { code = 11; place = 0; commands = 0; legs = 0; fewest = fewest }) (left read (l .room))
   no-number s =
       answered w
-      (reached.no-chain (deviceOf (B w)) (B w .items) run (allowed w) (inSlots (read .slots)) (fields (h w) (z w)) beliefs (held w (k .believed)) (l .room) (k .some) num′
+      (reached.no-chain (deviceOf (B w)) (B w .items) run (allowed w) (itemAt (read .slots)) (fields (h w) (z w)) beliefs (held w (k .believed)) (l .room) (k .some) num′
       (sym number-is ∙ s))
 
   module _ (number : getD fewest i 0 ≡ none → ⊥) where
-    pub can-walk : Walkable (inSlots (read .slots)) firsts i
+    pub can-walk : Walkable (itemAt (read .slots)) firsts i
     can-walk =
-        subst (Walkable (inSlots (read .slots)) firsts) (sym i-is)
-        (reached.walkable (deviceOf (B w)) (B w .items) run (allowed w) (inSlots (read .slots)) (fields (h w) (z w)) beliefs (held w (k .believed)) (l .room) (k .some) num′
+        subst (Walkable (itemAt (read .slots)) firsts) (sym i-is)
+        (reached.walkable (deviceOf (B w)) (B w .items) run (allowed w) (itemAt (read .slots)) (fields (h w) (z w)) beliefs (held w (k .believed)) (l .room) (k .some) num′
         (λ e. number (number-is ∙ e)))
 
-    pub written : {counts : Counts} {room : Room ℕ} → Walked (inSlots (read .slots)) firsts i (l .room .plan) (l .room .legs) counts (room .plan) (room .legs)
+    pub written : {counts : Counts} {room : Room ℕ} → Walked (itemAt (read .slots)) firsts i (l .room .plan) (l .room .legs) counts (room .plan) (room .legs)
         → AssembleAs inBytes book run l (record { code = 0; place = 0; commands = counts .commands; legs = counts .legs; fewest = fewest }) (left read room)
     written {counts} {room} x =
         answered w
-        (reached.chain-stored (deviceOf (B w)) (B w .items) run (allowed w) (inSlots (read .slots)) (fields (h w) (z w)) beliefs (held w (k .believed)) (l .room) (k .some) num′
-        (λ e. number (number-is ∙ e)) (subst (λ (j : ℕ). Walked (inSlots (read .slots)) firsts j (l .room .plan) (l .room .legs) counts (room .plan) (room .legs)) i-is x))
+        (reached.chain-stored (deviceOf (B w)) (B w .items) run (allowed w) (itemAt (read .slots)) (fields (h w) (z w)) beliefs (held w (k .believed)) (l .room) (k .some) num′
+        (λ e. number (number-is ∙ e)) (subst (λ (j : ℕ). Walked (itemAt (read .slots)) firsts j (l .room .plan) (l .room .legs) counts (room .plan) (room .legs)) i-is x))

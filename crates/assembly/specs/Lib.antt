@@ -1,5 +1,5 @@
 pub mod Believed
-pub mod Fields
+pub mod Items
 pub mod Rules
 pub mod ChainFollowed
 pub mod Lent

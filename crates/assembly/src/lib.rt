@@ -2,7 +2,6 @@
 mod beliefs;
 mod chain;
 mod points;
-mod slot;
 
 use beliefs::beliefs;
 use chain::write_chain;

@@ -77,9 +77,7 @@ pub fn fill_slots(book: &[u8], first: usize, slots: &mut [u8])
         if 64 <= i {
             return;
         }
-        let item = items::counts_at(book, at);
-        fill::put_slot(book, at, item.k, item.r, slots, 34 * i);
-        at = item.next;
+        at = slots::fill(book, at, slots, i as u8);
         i = i + 1;
     }
 }

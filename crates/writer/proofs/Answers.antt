@@ -1,11 +1,11 @@
 -- The contract says what Writes says, both ways; so what 01 says leaves one answer only. Assumes nothing.
 use mathlib.Core.Path.{_≡_, refl, sym, ap, _∙_, subst}
-use mathlib.Core.Logic.{_⊎_, _↔_, inl, inr, Dec·and}
+use mathlib.Core.Logic.{_⊎_, inl, inr, Dec·and}
 use mathlib.Core.List.{List}
-use Prim.Native.Nat.{ℕ, _-_, _*_, _<_, _≤_}
+use Prim.Native.Nat.{ℕ, _*_, _<_, _≤_}
 use native.Mathlib.Omega.{arith}
 use native.Mathlib.Decide.{map-dec, decLe, decLt}
-use lib.ListN.{length, getD, drop}
+use lib.ListN.{length, getD}
 use lib.Seq.{sets}
 use Rattle.base.specs.Lists.{Bytes}
 use Rattle.base.specs.Masks.{clearFrom}
@@ -13,18 +13,18 @@ use Rattle.reversal.specs.Device.{tabled}
 use Rattle.book.specs.Book.{Book, AllowedDevice, AllowedBook, bytesOf}
 use Rattle.book.specs.Lent.{Holds}
 use Rattle.base.proofs.Lists.{stored, same-written}
-use Rattle.book.specs.Buffers.{bookFrom, SlotFine, Writable}
+use Rattle.book.specs.Slots.{slotFine}
+use Rattle.book.specs.Buffers.{bookFrom, Writable}
 use Rattle.book.proofs.Fields.{clear-of, clear-on}
 use Rattle.book.proofs.Largest.{length-book}
-use Rattle.book.proofs.Items.{slot-allowed↔}
+use Rattle.book.proofs.Slots.{slot-allowed↔}
 use Rattle.book.proofs.RoundTrip.{written-allowed, written-holds, held-book, held-writable}
 use Rattle.writer.specs.declared.Writing.{Writing}
-use Rattle.writer.specs.Checks.{slotFine, lowestEntry, lowestSlot}
+use Rattle.writer.specs.Checks.{lowestEntry, lowestSlot}
 use Rattle.writer.specs.Contract.{checked, WriteAs}
 use Rattle.writer.specs.Writes.{LongEnough, EntryRight, SlotRight, Refuses, refusal, written, BookWritten, Writes}
 use Rattle.writer.specs.Writes.Refuses.{short, device, count, entry, slot}
 use Rattle.writer.specs.Writes.Writes.{refused, done}
-use Rattle.writer.proofs.Slots.{slot-right, slot-passes}
 use Rattle.writer.proofs.Lowest.{Tells, lowest-wrong, none-wrong, wrong-lowest, wrong-none}
 use Rattle.writer.proofs.Chain.{at-short, at-device, at-count, at-entry, at-slot, at-end}
 
@@ -38,15 +38,12 @@ module _ (n m items : ℕ) (table slots out : List ℕ) (h : Bytes slots) where
   entries-tell : Tells (λ i. clearFrom n (getD table i 0)) (EntryRight n table) (n * m)
   entries-tell = record { on = λ i l. clear-on n (getD table i 0); of = λ i l. clear-of n (getD table i 0) }
 
-  module _ (long : LongEnough table slots out) (d : AllowedDevice n m) (few : items ≤ 64) where
-    fine↔ : (i : ℕ) → i < items → SlotFine (tabled n m table) (drop (34 * i) slots) ↔ SlotRight n m table slots i
-    fine↔ i l = slot-allowed↔ (tabled n m table) (d .n-high) slots i h (omega (arith, long .slots-size))
-
-    slots-tell : Tells (λ i. slotFine n m slots (34 * i)) (SlotRight n m table slots) items
+  module _ (d : AllowedDevice n m) where
+    slots-tell : Tells (slotFine n m slots) (SlotRight n m table slots) items
     slots-tell =
         record {
-          on = λ i l e. fine↔ i l .0 (slot-right (tabled n m table) slots (34 * i) (omega (arith, long .slots-size)) e);
-          of = λ i l p. slot-passes (tabled n m table) slots (34 * i) (omega (arith, long .slots-size)) (fine↔ i l .1 p);
+          on = λ i l. slot-allowed↔ (tabled n m table) (d .n-high) slots i h .0;
+          of = λ i l. slot-allowed↔ (tabled n m table) (d .n-high) slots i h .1;
         }
 
   -- ---- what the chain of tests gives
@@ -60,7 +57,7 @@ module _ (n m items : ℕ) (table slots out : List ℕ) (h : Bytes slots) where
         let e : lowestEntry n (n * m) table ≡ i = wrong-lowest _ (n * m) entries-tell i w in
         ap (refuse 5) (sym e) ∙ at-entry n m items table slots out refuse fine long d few (omega (arith, w .inside))
     refused-is (slot {i} long d few f w) =
-        let e : lowestSlot n m items slots ≡ i = wrong-lowest _ items (slots-tell long d few) i w in
+        let e : lowestSlot n m items slots ≡ i = wrong-lowest _ items (slots-tell d) i w in
         ap (refuse 5) (sym e)
         ∙ at-slot n m items table slots out refuse fine long d few (wrong-none _ (n * m) entries-tell f) (omega (arith, w .inside))
 
@@ -68,7 +65,7 @@ module _ (n m items : ℕ) (table slots out : List ℕ) (h : Bytes slots) where
     unfolding lowestEntry lowestSlot
     fine-is long w =
         at-end n m items table slots out refuse fine long (w .device) (w .few) (wrong-none _ (n * m) entries-tell (w .entries))
-        (wrong-none _ items (slots-tell long (w .device) (w .few)) (λ i l. fine↔ long (w .device) (w .few) i l .0 (w .each-slot i l)))
+        (wrong-none _ items (slots-tell (w .device)) (λ i l. slots-tell (w .device) .on i l (w .each-slot i l)))
 
   -- ---- one of the cases holds
   long-or-not : Dec (LongEnough table slots out)
@@ -91,7 +88,7 @@ module _ (n m items : ℕ) (table slots out : List ℕ) (h : Bytes slots) where
     where
       on-slot : LongEnough table slots out → AllowedDevice n m → items ≤ 64 → ((i : ℕ) → i < n * m → EntryRight n table i)
           → Dec (lowestSlot n m items slots < items) → Judged
-      on-slot long d few f (yes q) = inl (5, lowestSlot n m items slots, slot long d few f (lowest-wrong _ items (slots-tell long d few) q))
+      on-slot long d few f (yes q) = inl (5, lowestSlot n m items slots, slot long d few f (lowest-wrong _ items (slots-tell d) q))
       on-slot long d few f (no q) =
           inr (
             long,
@@ -99,7 +96,7 @@ module _ (n m items : ℕ) (table slots out : List ℕ) (h : Bytes slots) where
               device = d;
               few = few;
               entries = f;
-              each-slot = λ i l. fine↔ long d few i l .1 (none-wrong _ items (slots-tell long d few) (omega arith) i l);
+              each-slot = λ i l. slots-tell d .of i l (none-wrong _ items (slots-tell d) (omega arith) i l);
             },
           )
 
@@ -135,7 +132,7 @@ module _ {n m items : ℕ} {table slots out : List ℕ} where
           (a .output ∙ sym (refused-is n m items table slots out (a .bytes) _ _ q))
       go (inr (long, w)) =
           done long (bookFrom n m items table slots) (written-allowed n m items table slots w)
-          (written-holds n m items table slots w (long .table-size) (omega (arith, long .slots-size, w .few)) (a .bytes))
+          (written-holds n m items table slots w (long .table-size) (a .bytes))
           (rw (
             a .result ∙ sym (fine-is n m items table slots out (a .bytes) _ _ long w),
             a .output ∙ sym (fine-is n m items table slots out (a .bytes) _ _ long w),

@@ -12,10 +12,11 @@ use Rattle.base.specs.Bounded.{seek}
 use Rattle.base.specs.Compare.{less}
 use Rattle.base.specs.Masks.{clearFrom}
 use Rattle.octets.specs.Parts.{piece}
-use Rattle.book.specs.Limits.{allBelow}
+use Rattle.book.specs.Limits.{countsFine, allBelow, fieldsFine}
+use Rattle.book.specs.Slots.{itemAt, slotFine}
 use Rattle.book.proofs.Fields.{all-on}
 use Rattle.writer.specs.declared.Writing.{Writing}
-use Rattle.writer.specs.Checks.{fieldsFine, slotFine, lowestEntry, lowestSlot}
+use Rattle.writer.specs.Checks.{lowestEntry, lowestSlot}
 use Rattle.writer.specs.Contract.{checked}
 use Rattle.writer.specs.Writes.{Refuses, refusal, written}
 use Rattle.writer.specs.Cases.{Spoilt}
@@ -37,7 +38,7 @@ refused-by n m items table slots out code place b e l = go (judged n m items tab
         absurd (omega (arith, ap (λ (w : Writing). w .code) r))
 
 pub spoilt : Spoilt
-unfolding pick both seek less clearFrom piece allBelow fieldsFine slotFine lowestEntry lowestSlot checked
+unfolding pick both seek less clearFrom piece countsFine allBelow fieldsFine itemAt slotFine lowestEntry lowestSlot checked
 spoilt =
     record {
       short-table = refused-by _ _ _ _ _ _ _ _ refl refl (lit< tt);

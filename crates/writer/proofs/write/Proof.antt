@@ -115,7 +115,7 @@ put-book-requires c κs =
     let a = c .before .before .before .before .before .before .before .before .before .before .before .before .before .before .before .before .args in
     let h : a .items ≤ lowestSlot (a .n) (a .m) (a .items) (a .slots .now)
     = rw (c .before .before .lowest-slot .ensures) at (c .before .if10 .left) in
-    (omega arith, omega arith, omega arith, omega arith, omega arith, counts-fine (a .n) (a .m) (a .items) (a .slots .now) h)
+    (omega arith, omega arith, omega arith, omega arith, counts-fine (a .n) (a .m) (a .items) (a .slots .now) h)
 
 same-length : tie.Need-same-length
 same-length c = search needs

@@ -1,6 +1,5 @@
 -- The lent buffers after reading, as the code fills them, are what 01 says of them, and nothing else is. Assumes nothing.
 use mathlib.Core.Path.{_≡_, ap₂}
-use mathlib.Core.List.{List}
 use Rattle.base.specs.Sizes.{LongEnough}
 use Rattle.base.proofs.Lists.{same-written}
 use Rattle.book.specs.Book.{Book, AllowedBook}

@@ -1,6 +1,6 @@
 -- The contract of checking gives what 01 says; the first item that the test turns down is the first that is no conditional reverse plan by
 -- trajectories. Assumes nothing.
-use mathlib.Core.Path.{_≡_, refl, sym, ap, _∙_}
+use mathlib.Core.Path.{_≡_, refl, ap, _∙_}
 use mathlib.Core.Bool.{Bool, true, false, not}
 use mathlib.Core.Logic.{_↔_}
 use mathlib.Core.List.{List}

@@ -1,6 +1,6 @@
 -- What 01 says of checking leaves one answer only: the result and the buffers. So it answers 0 exactly on accepted books, and 8 exactly where a
 -- book keeps the rules and some item is not accepted, the first such one being at the place. Assumes nothing.
-use mathlib.Core.Path.{_≡_, refl, sym, ap, _∙_, subst}
+use mathlib.Core.Path.{_≡_, sym, ap, _∙_, subst}
 use mathlib.Core.Logic.{_↔_}
 use mathlib.Core.List.{List}
 use Prim.Native.Nat.{ℕ, _≤_, _<_}

@@ -15,8 +15,6 @@ use Rattle.writer.specs.Contract.{WriteAs}
 use Rattle.writer.proofs.Answers.{writes}
 use Rattle.writer.proofs.RoundTrips.{writes-zero↔, write-well-formed, write-length}
 use Rattle.writer.proofs.write as write
-use Rattle.runs.specs.RunBytes.{runBytes}
-use Rattle.book.specs.Example.{bytesQ}
 use Rattle.assembly.specs.declared.Assembly.{Assembly}
 use Rattle.assembly.specs.Lent.{LegForm, inBytes, AllLent}
 use Rattle.assembly.specs.Assembles.{Assembles}

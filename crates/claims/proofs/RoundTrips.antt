@@ -1,9 +1,9 @@
 -- The round trips, from what 01 says of reading and writing. Assumes nothing.
-use mathlib.Core.Path.{_≡_, refl, sym, ap, ap₂, _∙_, subst}
+use mathlib.Core.Path.{_≡_, sym, ap, ap₂, _∙_, subst}
 use mathlib.Core.List.{List}
-use Prim.Native.Nat.{ℕ, _*_, _<_, _≤_}
+use Prim.Native.Nat.{ℕ, _*_, _<_}
 use native.Mathlib.Omega.{arith}
-use lib.ListN.{length, getD, take}
+use lib.ListN.{length, take}
 use Rattle.base.specs.Lists.{Bytes}
 use Rattle.book.specs.Book.{Book, deviceOf, AllowedBook, bytesOf}
 use Rattle.book.specs.Lent.{Lent, lent, slotsBytes, Holds}

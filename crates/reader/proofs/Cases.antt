@@ -1,7 +1,5 @@
 -- Q's 225 bytes read, by the book that stands in them. Assumes nothing.
 use mathlib.Core.Path.{_≡_, refl, sym, ap, _∙_, subst}
-use mathlib.Core.List.{List}
-use Prim.Native.Nat.{ℕ}
 use lib.Dec.{lit<, lit≤}
 use lib.ListN.{take}
 use lib.Seq.{take-take}

@@ -1,7 +1,5 @@
 -- Q's 225 bytes read, with literal numbers. Assumes nothing: these are definitions.
 use mathlib.Core.Path.{_≡_}
-use mathlib.Core.List.{List}
-use Prim.Native.Nat.{ℕ}
 use lib.ListN.{getD, take}
 use Rattle.base.specs.Sizes.{LongEnough}
 use Rattle.book.specs.Lent.{Lent, sizes}

@@ -1,7 +1,7 @@
 -- The text for a book's and a run's bytes, computed. proofs/Exactly ties it to specs/Prints. Assumes nothing: these are definitions.
 use mathlib.Core.Path.{_≡_}
 use mathlib.Core.List.{List}
-use Prim.Native.Nat.{ℕ, _<_, _≤_}
+use Prim.Native.Nat.{ℕ, _≤_}
 use lib.ListN.{length, take}
 use lib.Seq.{sets}
 use Rattle.base.specs.Lists.{Bytes}

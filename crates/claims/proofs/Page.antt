@@ -25,6 +25,7 @@ use Rattle.reversal.proofs.EndToEnd.{chain-undoes}
 use Rattle.reversal.proofs.Assembling.{numbers-right, answer-right, answers-unique}
 use Rattle.reversal.proofs.Cases.{twelve}
 use Rattle.book.specs.Book.{Book, bytesOf, WellFormed}
+use Rattle.book.specs.Lent.{Lent}
 use Rattle.book.specs.Example as book-example
 use Rattle.book.proofs.Example as book-cases
 use Rattle.book.proofs.Largest.{length-book, largest-book}
@@ -202,8 +203,8 @@ pub only-checking : {book table slots : List ℕ} {r q : Reading} {t s t′ s′
     → Checks book table slots q t′ s′ → (r ≡ q) × (t ≡ t′) × (s ≡ s′)
 only-checking h x y = checks-unique h x y
 
-pub only-writing : {n m items : ℕ} {table slots out : List ℕ} {r q : Writing} {o o′ : List ℕ} → Bytes slots → Writes n m items table slots out r o
-    → Writes n m items table slots out q o′ → (r ≡ q) × (o ≡ o′)
+pub only-writing : {n m items : ℕ} {l : Lent} {out : List ℕ} {r q : Writing} {o o′ : List ℕ} → Bytes (l .slots) → Writes n m items l out r o
+    → Writes n m items l out q o′ → (r ≡ q) × (o ≡ o′)
 only-writing h x y = writes-unique h x y
 
 -- for either form of the legs

@@ -5,8 +5,9 @@ use Prim.Native.Nat.{ℕ, _*_, _<_, _≤_}
 use native.Mathlib.Omega.{arith}
 use lib.ListN.{length, getD, take}
 use Rattle.base.specs.Lists.{Bytes}
+use Rattle.base.specs.Sizes.{LongEnough}
 use Rattle.book.specs.Book.{Book, deviceOf, AllowedBook, bytesOf}
-use Rattle.book.specs.Lent.{slotsBytes, Holds}
+use Rattle.book.specs.Lent.{Lent, lent, slotsBytes, Holds}
 use Rattle.book.proofs.Codes.{refusal-codes}
 use Rattle.book.proofs.Slots.{length-slots}
 use Rattle.book.proofs.Unique.{same-entry, one-book, not-refused}
@@ -14,14 +15,14 @@ use Rattle.book.proofs.RoundTrip.{read-holds}
 use Rattle.reader.specs.declared.Reading.{Reading}
 use Rattle.reader.specs.Reads.{done, Long, Filled, Reads, short, faulty, fine}
 use Rattle.writer.specs.declared.Writing.{Writing}
-use Rattle.writer.specs.Writes.{LongEnough, BookWritten, Writes}
+use Rattle.writer.specs.Writes.{buffers, BookWritten, Writes}
 use Rattle.writer.proofs.Answers.{held-written}
 use Rattle.writer.proofs.RoundTrips.{done-of, book-bytes}
 use Rattle.claims.specs.Claims.{GivenBack, ReadBack, WriteBack}
 
-pub write-back : {n m items : ℕ} {table slots out : List ℕ} {r : Writing} {out′ : List ℕ} → Bytes slots → Writes n m items table slots out r out′
-    → WriteBack n m items table slots out r out′
-write-back {n} {m} {items} {table} {slots} {out} {r} {out′} h x book t s reads room = go reads
+pub write-back : {n m items : ℕ} {l : Lent} {out : List ℕ} {r : Writing} {out′ : List ℕ} → Bytes (l .slots) → Writes n m items l out r out′
+    → WriteBack n m items l out r out′
+write-back {n} {m} {items} {l} {out} {r} {out′} h x book t s reads room = go reads
   where
     read : Reading
     read = record { code = 0; place = 0; n = n; m = m; items = items }
@@ -29,17 +30,14 @@ write-back {n} {m} {items} {table} {slots} {out} {r} {out′} h x book t s reads
     code-of : {y : Reading} → read ≡ y → 0 ≡ y .code
     code-of e = ap (λ (y : Reading). y .code) e
 
-    go : Reads book t s read table slots → BookWritten book out r out′
+    go : Reads book t s read (l .table) (l .slots) → BookWritten book out r out′
     go (short a e k) = absurd (omega (arith, code-of e))
-    go (faulty l f e k) = absurd (omega (arith, code-of e, refusal-codes book _ _ f))
+    go (faulty _ f e k) = absurd (omega (arith, code-of e, refusal-codes book _ _ f))
     go (fine b f e) =
-        let holds : Holds n m items table slots b
-        = subst (λ (y : Reading). Holds (y .n) (y .m) (y .items) table slots b) (sym e) (read-holds (f .table-read) (f .slots-read)) in
-        let long : LongEnough table slots out = record {
-          table-size = omega (arith, f .table-read .size, f .long .0);
-          slots-size = omega (arith, f .slots-read .size, f .long .1);
-          out-size = room;
-        } in
+        let holds : Holds n m items l b
+        = subst (λ (y : Reading). Holds (y .n) (y .m) (y .items) l b) (sym e) (read-holds (f .table-read) (f .slots-read)) in
+        let long : LongEnough (buffers l out)
+        = (omega (arith, f .table-read .size, f .long .0), (omega (arith, f .slots-read .size, f .long .1), (room, tt))) in
         subst (λ (y : List ℕ). BookWritten y out r out′) (f .bytes) (held-written h x long (f .allowed) holds)
 
 pub read-back : {book table slots : List ℕ} {r : Reading} {table′ slots′ : List ℕ} → Bytes book → Reads book table slots r table′ slots′
@@ -52,7 +50,7 @@ read-back {book} {table} {slots} {r} {table′} {slots′} h reads n m items t s
     allowed : AllowedBook b
     allowed = done-of z x .1 .1
 
-    holds : Holds n m items t s b
+    holds : Holds n m items (lent t s) b
     holds = done-of z x .1 .2
 
     same : bytesOf b ≡ book

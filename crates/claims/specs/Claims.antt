@@ -8,14 +8,15 @@ use prog.Routine.{Routine}
 use lib.ListN.{length, getD, take}
 use denote.Ref.{now}
 use Rattle.book.specs.Book.{Book, AllowedBook, bytesOf, WellFormed}
-use Rattle.book.specs.Lent.{Holds}
+use Rattle.base.specs.Sizes.{LongEnough}
+use Rattle.book.specs.Lent.{Lent, lent, Holds}
 use Rattle.reader.specs.declared.Reading.{Reading}
 use Rattle.reader.specs.Reads.{Long, Reads}
 use Rattle.reader.proofs.read as read
 use Rattle.checker.specs.Checks.{AcceptedBook, placeOf, FirstWrong, Checks}
 use Rattle.checker.proofs.check as check
 use Rattle.writer.specs.declared.Writing.{Writing}
-use Rattle.writer.specs.Writes.{LongEnough, BookWritten, Writes}
+use Rattle.writer.specs.Writes.{buffers, BookWritten, Writes}
 use Rattle.writer.proofs.write as write
 use Rattle.assembly.specs.declared.Assembly.{Assembly}
 use Rattle.assembly.specs.Assembles.{LegForm, inBytes, Assembles}
@@ -40,10 +41,10 @@ abbrev pub onRead : Read → After read.ended
 onRead P κs (book, (table, (slots, _))) r (_, (table′, (slots′, _))) = P (now book) (now table) (now slots) r (now table′) (now slots′)
 
 abbrev pub Write : Type 1
-Write = ℕ → ℕ → ℕ → List ℕ → List ℕ → List ℕ → Writing → List ℕ → Type 0
+Write = ℕ → ℕ → ℕ → Lent → List ℕ → Writing → List ℕ → Type 0
 
 abbrev pub onWrite : Write → After write.ended
-onWrite P κs (n, (m, (items, (table, (slots, (out, _)))))) r (_, (_, (_, (_, (_, (out′, _)))))) = P n m items (now table) (now slots) (now out) r (now out′)
+onWrite P κs (n, (m, (items, (table, (slots, (out, _)))))) r (_, (_, (_, (_, (_, (out′, _)))))) = P n m items (lent (now table) (now slots)) (now out) r (now out′)
 
 abbrev pub Assemble : Type 0 → Type 1
 Assemble E = List ℕ → List ℕ → List ℕ → List ℕ → List ℕ → List E → Assembly → List ℕ → List ℕ → List ℕ → List E → Type 0
@@ -73,13 +74,13 @@ pub record GivenBack (n m items : ℕ) (table slots : List ℕ) (r : Reading) (t
 -- "writing allowed tables and items and reading them gives those back": the book is what some writing, with code 0, wrote
 abbrev pub ReadBack : Read
 ReadBack book table slots r table′ slots′ =
-    (n m items : ℕ) (t s out : List ℕ) (w : Writing) (out′ : List ℕ) → Writes n m items t s out w out′ → w .code ≡ 0
+    (n m items : ℕ) (t s out : List ℕ) (w : Writing) (out′ : List ℕ) → Writes n m items (lent t s) out w out′ → w .code ≡ 0
     → book ≡ take (w .length) out′ → Long table slots → GivenBack n m items t s r table′ slots′
 
 -- "Reading a well-formed book and writing it gives the same bytes": the n, m, count, table and slots are those that some reading, with code 0, left
 abbrev pub WriteBack : Write
-WriteBack n m items table slots out r out′ =
-    (book t s : List ℕ) → Reads book t s (record { code = 0; place = 0; n = n; m = m; items = items }) table slots → 31110 ≤ length out
+WriteBack n m items l out r out′ =
+    (book t s : List ℕ) → Reads book t s (record { code = 0; place = 0; n = n; m = m; items = items }) (l .table) (l .slots) → 31110 ≤ length out
     → BookWritten book out r out′
 
 -- ---- the claims
@@ -111,11 +112,11 @@ pub record CheckClaims (ρ : Routine) : Type 2 where
 
 -- writing answers 0 exactly where the buffers are long enough and table and slots hold an allowed book
 abbrev pub WritesZero : Write
-WritesZero n m items table slots out r out′ = (r .code ≡ 0) ↔ (LongEnough table slots out × ((b : Book) × AllowedBook b × Holds n m items table slots b))
+WritesZero n m items l out r out′ = (r .code ≡ 0) ↔ (LongEnough (buffers l out) × ((b : Book) × AllowedBook b × Holds n m items l b))
 
 -- what it writes is well-formed, and no longer than any well-formed book
 abbrev pub WellWritten : Write
-WellWritten n m items table slots out r out′ = r .code ≡ 0 → WellFormed (take (r .length) out′) × (r .length ≤ 31110)
+WellWritten n m items l out r out′ = r .code ≡ 0 → WellFormed (take (r .length) out′) × (r .length ≤ 31110)
 
 pub record WriteClaims (ρ : Routine) : Type 2 where
   -- 01: "Writing takes n, m, an item count .."; its refusals in their order, and what the output holds then

@@ -8,6 +8,7 @@ ghost use mathlib.Core.Path.{_≡_};
 ghost use Prim.Native.Nat.{_≤_, _<_};
 ghost use lib.ListN.{length};
 ghost use lib.Seq.{sets};
+ghost use Rattle.book.specs.Lent.{lent};
 ghost use Rattle.reader.specs.Contract.{ReadAs};
 ghost use Rattle.checker.specs.Contract.{CheckAs};
 ghost use Rattle.writer.specs.Contract.{WriteAs};
@@ -54,7 +55,7 @@ pub extern "C" fn rollback_write(
     slots: &[u8],
     out: &mut [u8],
 ) -> Writing
-    ensures { λ r. ⌜ WriteAs n m items (now (table .entry)) (now (slots .entry)) (now (out .entry)) r (now (out .exit)) ⌝ }
+    ensures { λ r. ⌜ WriteAs n m items (lent (now (table .entry)) (now (slots .entry))) (now (out .entry)) r (now (out .exit)) ⌝ }
 {
     writer::write(n, m, items, table, slots, out)
 }

@@ -56,3 +56,10 @@ short-on ss f = go (anyShort ss) refl
     go : (t : Bool) → anyShort ss ≡ t → t ≡ true
     go true e = refl
     go false e = absurd (f (off-long ss e))
+
+pub long-or-not : (ss : List Sized) → Dec (LongEnough ss)
+long-or-not ss = go (anyShort ss) refl
+  where
+    go : (t : Bool) → anyShort ss ≡ t → Dec (LongEnough ss)
+    go true e = no (on-short ss e)
+    go false e = yes (off-long ss e)

@@ -1,5 +1,5 @@
 -- The tests of 01's limits pass exactly where a device, a move or an item is allowed. Assumes nothing.
-use mathlib.Core.Path.{_≡_, refl, sym, ap}
+use mathlib.Core.Path.{_≡_, refl, sym, ap, _∙_}
 use mathlib.Core.Bool.{Bool, true, false, not, false≢true}
 use Prim.Native.Nat.{ℕ, _≤_}
 use native.Mathlib.Omega.{arith}
@@ -39,6 +39,23 @@ module _ (n m : ℕ) where
       let (c, e₃) = past (less m 1) _ e₂ in
       let (d, _) = past (less 32 m) _ e₃ in
       record { n-low = less-off n 1 a; n-high = less-off 64 n b; m-low = less-off m 1 c; m-high = less-off 32 m d }
+
+  pub no-device : deviceFine n m ≡ false → AllowedDevice n m → ⊥
+  no-device e a = false≢true (sym e ∙ device-of a)
+
+  pub device-or-not : Dec (AllowedDevice n m)
+  device-or-not = go (deviceFine n m) refl
+    where
+      go : (t : Bool) → deviceFine n m ≡ t → Dec (AllowedDevice n m)
+      go true e = yes (device-on e)
+      go false e = no (no-device e)
+
+  pub device-off : (AllowedDevice n m → ⊥) → not (deviceFine n m) ≡ true
+  device-off f = go (deviceFine n m) refl
+    where
+      go : (t : Bool) → deviceFine n m ≡ t → not t ≡ true
+      go true e = absurd (f (device-on e))
+      go false e = refl
 
 -- ---- a move
 module _ (n m : ℕ) (x : Move) where

@@ -202,8 +202,8 @@ only-reading h x y = reads-unique h x y
 pub only-checking : {book : List ℕ} {l : Lent} {r q : Reading} {l′ l″ : Lent} → Bytes book → Checks book l r l′ → Checks book l q l″ → (r ≡ q) × (l′ ≡ l″)
 only-checking h x y = checks-unique h x y
 
-pub only-writing : {n m items : ℕ} {table slots out : List ℕ} {r q : Writing} {o o′ : List ℕ} → Bytes slots → Writes n m items table slots out r o
-    → Writes n m items table slots out q o′ → (r ≡ q) × (o ≡ o′)
+pub only-writing : {n m items : ℕ} {l : Lent} {out : List ℕ} {r q : Writing} {o o′ : List ℕ} → Bytes (l .slots) → Writes n m items l out r o
+    → Writes n m items l out q o′ → (r ≡ q) × (o ≡ o′)
 only-writing h x y = writes-unique h x y
 
 -- for either form of the legs

@@ -5,8 +5,9 @@ use Prim.Native.Nat.{ℕ, _*_, _<_}
 use native.Mathlib.Omega.{arith}
 use lib.ListN.{length, take}
 use Rattle.base.specs.Lists.{Bytes}
+use Rattle.base.specs.Sizes.{LongEnough}
 use Rattle.book.specs.Book.{Book, deviceOf, AllowedBook, bytesOf}
-use Rattle.book.specs.Lent.{Lent, lent, slotsBytes, Holds}
+use Rattle.book.specs.Lent.{Lent, slotsBytes, Holds}
 use Rattle.book.proofs.Codes.{refusal-codes}
 use Rattle.book.proofs.Slots.{length-slots}
 use Rattle.book.proofs.Unique.{same-entry, one-book, not-refused}
@@ -14,14 +15,14 @@ use Rattle.book.proofs.RoundTrip.{read-holds}
 use Rattle.reader.specs.declared.Reading.{Reading}
 use Rattle.reader.specs.Reads.{done, Filled, Reads, short, faulty, fine}
 use Rattle.writer.specs.declared.Writing.{Writing}
-use Rattle.writer.specs.Writes.{LongEnough, BookWritten, Writes}
+use Rattle.writer.specs.Writes.{buffers, BookWritten, Writes}
 use Rattle.writer.proofs.Answers.{held-written}
 use Rattle.writer.proofs.RoundTrips.{done-of, book-bytes}
 use Rattle.claims.specs.Claims.{GivenBack, ReadBack, WriteBack}
 
-pub write-back : {n m items : ℕ} {table slots out : List ℕ} {r : Writing} {out′ : List ℕ} → Bytes slots → Writes n m items table slots out r out′
-    → WriteBack n m items table slots out r out′
-write-back {n} {m} {items} {table} {slots} {out} {r} {out′} h x book l reads room = go reads
+pub write-back : {n m items : ℕ} {l : Lent} {out : List ℕ} {r : Writing} {out′ : List ℕ} → Bytes (l .slots) → Writes n m items l out r out′
+    → WriteBack n m items l out r out′
+write-back {n} {m} {items} {l} {out} {r} {out′} h x book given reads room = go reads
   where
     read : Reading
     read = record { code = 0; place = 0; n = n; m = m; items = items }
@@ -29,21 +30,18 @@ write-back {n} {m} {items} {table} {slots} {out} {r} {out′} h x book l reads r
     code-of : {y : Reading} → read ≡ y → 0 ≡ y .code
     code-of e = ap (λ (y : Reading). y .code) e
 
-    go : Reads book l read (lent table slots) → BookWritten book out r out′
+    go : Reads book given read l → BookWritten book out r out′
     go (short a e k) = absurd (omega (arith, code-of e))
     go (faulty _ f e k) = absurd (omega (arith, code-of e, refusal-codes book _ _ f))
     go (fine b f e) =
-        let holds : Holds n m items table slots b
-        = subst (λ (y : Reading). Holds (y .n) (y .m) (y .items) table slots b) (sym e) (read-holds (f .read .table-read) (f .read .slots-read)) in
-        let long : LongEnough table slots out = record {
-          table-size = omega (arith, f .read .table-read .size, f .long .0);
-          slots-size = omega (arith, f .read .slots-read .size, f .long .1 .0);
-          out-size = room;
-        } in
+        let holds : Holds n m items l b
+        = subst (λ (y : Reading). Holds (y .n) (y .m) (y .items) l b) (sym e) (read-holds (f .read .table-read) (f .read .slots-read)) in
+        let long : LongEnough (buffers l out)
+        = (omega (arith, f .read .table-read .size, f .long .0), (omega (arith, f .read .slots-read .size, f .long .1 .0), (room, tt))) in
         subst (λ (y : List ℕ). BookWritten y out r out′) (f .bytes) (held-written h x long (f .allowed) holds)
 
 pub read-back : {book : List ℕ} {l : Lent} {r : Reading} {l′ : Lent} → Bytes book → Reads book l r l′ → ReadBack book l r l′
-read-back {book} {l} {r} {l′} h reads n m items t s out w out′ x z e long = go reads
+read-back {book} {l} {r} {l′} h reads n m items given out w out′ x z e long = go reads
   where
     b : Book
     b = done-of z x .1 .0
@@ -51,7 +49,7 @@ read-back {book} {l} {r} {l′} h reads n m items t s out w out′ x z e long = 
     allowed : AllowedBook b
     allowed = done-of z x .1 .1
 
-    holds : Holds n m items t s b
+    holds : Holds n m items given b
     holds = done-of z x .1 .2
 
     same : bytesOf b ≡ book
@@ -60,7 +58,7 @@ read-back {book} {l} {r} {l′} h reads n m items t s out w out′ x z e long = 
     size : length (slotsBytes (b .items)) ≡ 34 * items
     size = length-slots (deviceOf b) (b .items) (allowed .each-item) ∙ ap (λ (k : ℕ). 34 * k) (holds .count)
 
-    back : r ≡ done b → Filled book l b l′ → GivenBack n m items (lent t s) r l′
+    back : r ≡ done b → Filled book l b l′ → GivenBack n m items given r l′
     back q f =
         record {
           result =
@@ -73,10 +71,10 @@ read-back {book} {l} {r} {l′} h reads n m items t s out w out′ x z e long = 
               (subst (λ (c : ℕ). i < c) (ap₂ (λ (i j : ℕ). i * j) (sym (holds .states)) (sym (holds .commands))) k);
           slots-same =
               ap (λ (k : ℕ). take k (l′ .slots)) (sym size)
-              ∙ (f .read .slots-read .front ∙ (sym (holds .slots-are .front) ∙ ap (λ (k : ℕ). take k s) size));
+              ∙ (f .read .slots-read .front ∙ (sym (holds .slots-are .front) ∙ ap (λ (k : ℕ). take k (given .slots)) size));
         }
 
-    go : Reads book l r l′ → GivenBack n m items (lent t s) r l′
+    go : Reads book l r l′ → GivenBack n m items given r l′
     go (short a q k) = absurd (a long)
     go (faulty _ f q k) = absurd (not-refused book h f b allowed same)
     go (fine b′ f q) =

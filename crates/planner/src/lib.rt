@@ -59,7 +59,7 @@ pub extern "C" fn rollback_write(
     slots: &[u8],
     out: &mut [u8],
 ) -> Writing
-    ensures { λ r. ⌜ WriteAs n m items (now (table .entry)) (now (slots .entry)) (now (out .entry)) r (now (out .exit)) ⌝ }
+    ensures { λ r. ⌜ WriteAs n m items (lent (now (table .entry)) (now (slots .entry))) (now (out .entry)) r (now (out .exit)) ⌝ }
 {
     writer::write(n, m, items, table, slots, out)
 }

@@ -11,8 +11,10 @@ use Rattle.base.specs.Tests.{pick, both}
 use Rattle.base.specs.Bounded.{seek}
 use Rattle.base.specs.Compare.{less}
 use Rattle.base.specs.Masks.{clearFrom}
+use Rattle.base.specs.Shorter.{anyShort}
 use Rattle.octets.specs.Parts.{piece}
-use Rattle.book.specs.Limits.{countsFine, allBelow, fieldsFine}
+use Rattle.book.specs.Limits.{deviceFine, countsFine, allBelow, fieldsFine}
+use Rattle.book.specs.Lent.{Lent}
 use Rattle.book.specs.Slots.{itemAt, slotFine}
 use Rattle.book.proofs.Fields.{all-on}
 use Rattle.writer.specs.declared.Writing.{Writing}
@@ -22,34 +24,34 @@ use Rattle.writer.specs.Writes.{Refuses, refusal, written}
 use Rattle.writer.specs.Cases.{Spoilt}
 use Rattle.writer.proofs.Answers.{judged, Judged, refused-is, fine-is}
 
-refused-by : (n m items : ℕ) (table slots out : List ℕ) (code place : ℕ) → allBelow 256 slots ≡ true
-    → checked n m items table slots out refusal (written 0) ≡ refusal code place → 0 < code → Refuses n m items table slots out code place
-refused-by n m items table slots out code place b e l = go (judged n m items table slots out h)
+refused-by : (n m items : ℕ) (l : Lent) (out : List ℕ) (code place : ℕ) → allBelow 256 (l .slots) ≡ true
+    → checked n m items l out refusal (written 0) ≡ refusal code place → 0 < code → Refuses n m items l out code place
+refused-by n m items l out code place b e q = go (judged n m items l out h)
   where
-    h : Bytes slots
-    h = all-on 256 slots b
+    h : Bytes (l .slots)
+    h = all-on 256 (l .slots) b
 
-    go : Judged n m items table slots out h → Refuses n m items table slots out code place
+    go : Judged n m items l out h → Refuses n m items l out code place
     go (inl (c, p, q)) =
-        let r : refusal c p ≡ refusal code place = refused-is n m items table slots out h refusal (written 0) q ∙ e in
-        subst₂ (λ (x y : ℕ). Refuses n m items table slots out x y) (ap (λ (w : Writing). w .code) r) (ap (λ (w : Writing). w .place) r) q
+        let r : refusal c p ≡ refusal code place = refused-is n m items l out h refusal (written 0) q ∙ e in
+        subst₂ (λ (x y : ℕ). Refuses n m items l out x y) (ap (λ (w : Writing). w .code) r) (ap (λ (w : Writing). w .place) r) q
     go (inr (long, w)) =
-        let r : written 0 ≡ refusal code place = fine-is n m items table slots out h refusal (written 0) long w ∙ e in
+        let r : written 0 ≡ refusal code place = fine-is n m items l out h refusal (written 0) long w ∙ e in
         absurd (omega (arith, ap (λ (w : Writing). w .code) r))
 
 pub spoilt : Spoilt
-unfolding pick both seek less clearFrom piece countsFine allBelow fieldsFine itemAt slotFine lowestEntry lowestSlot checked
+unfolding pick both seek less clearFrom anyShort piece deviceFine countsFine allBelow fieldsFine itemAt slotFine lowestEntry lowestSlot checked
 spoilt =
     record {
-      short-table = refused-by _ _ _ _ _ _ _ _ refl refl (lit< tt);
-      short-slots = refused-by _ _ _ _ _ _ _ _ refl refl (lit< tt);
-      short-output = refused-by _ _ _ _ _ _ _ _ refl refl (lit< tt);
-      no-states = refused-by _ _ _ _ _ _ _ _ refl refl (lit< tt);
-      states-65 = refused-by _ _ _ _ _ _ _ _ refl refl (lit< tt);
-      no-commands = refused-by _ _ _ _ _ _ _ _ refl refl (lit< tt);
-      commands-33 = refused-by _ _ _ _ _ _ _ _ refl refl (lit< tt);
-      count-65 = refused-by _ _ _ _ _ _ _ _ refl refl (lit< tt);
-      entry-2 = refused-by _ _ _ _ _ _ _ _ refl refl (lit< tt);
-      slot-1 = refused-by _ _ _ _ _ _ _ _ refl refl (lit< tt);
-      unused-byte = refused-by _ _ _ _ _ _ _ _ refl refl (lit< tt);
+      short-table = refused-by _ _ _ _ _ _ _ refl refl (lit< tt);
+      short-slots = refused-by _ _ _ _ _ _ _ refl refl (lit< tt);
+      short-output = refused-by _ _ _ _ _ _ _ refl refl (lit< tt);
+      no-states = refused-by _ _ _ _ _ _ _ refl refl (lit< tt);
+      states-65 = refused-by _ _ _ _ _ _ _ refl refl (lit< tt);
+      no-commands = refused-by _ _ _ _ _ _ _ refl refl (lit< tt);
+      commands-33 = refused-by _ _ _ _ _ _ _ refl refl (lit< tt);
+      count-65 = refused-by _ _ _ _ _ _ _ refl refl (lit< tt);
+      entry-2 = refused-by _ _ _ _ _ _ _ refl refl (lit< tt);
+      slot-1 = refused-by _ _ _ _ _ _ _ refl refl (lit< tt);
+      unused-byte = refused-by _ _ _ _ _ _ _ refl refl (lit< tt);
     }

@@ -1,73 +1,66 @@
 -- The chain of tests: what it gives in each of 01's cases. Assumes nothing.
-use mathlib.Core.Path.{_≡_, refl}
-use mathlib.Core.Bool.{Bool, false}
+use mathlib.Core.Path.{_≡_, ap}
+use mathlib.Core.Bool.{true, false, not}
 use mathlib.Core.List.{List, []}
 use Prim.Native.Nat.{ℕ, _*_, _<_, _≤_}
 use native.Mathlib.Omega.{arith}
-use lib.ListN.{length, getD}
+use lib.ListN.{getD}
 use mir.Syntax.{w8}
 use mir.Val.{Fits}
 use Rattle.base.specs.Lists.{Each}
 use Rattle.base.proofs.Lists.{each-of}
-use Rattle.base.specs.Tests.{pick}
-use Rattle.base.specs.Compare.{less}
-use Rattle.base.proofs.Compare.{less-off}
-use Rattle.base.proofs.Picks.{pick-elim, less-no, tests}
+use Rattle.base.specs.Sizes.{LongEnough}
+use Rattle.base.specs.Shorter.{anyShort}
+use Rattle.base.proofs.Sizes.{long-off, short-on}
+use Rattle.base.proofs.Picks.{tests}
 use Rattle.reversal.specs.Device.{tabled}
 use Rattle.reversal.specs.Reversal.{AllowedItem}
 use Rattle.book.specs.Book.{AllowedDevice}
+use Rattle.book.specs.Limits.{deviceFine}
+use Rattle.book.specs.Lent.{Lent}
 use Rattle.book.specs.Slots.{itemAt, slotFine}
 use Rattle.book.proofs.Slots.{item-fine}
+use Rattle.book.proofs.Limits.{device-of, device-off}
 use Rattle.writer.specs.Records.{CountsFine}
 use Rattle.writer.specs.Checks.{lowestEntry, lowestSlot}
 use Rattle.writer.specs.Contract.{checked}
-use Rattle.writer.specs.Writes.{LongEnough}
+use Rattle.writer.specs.Writes.{buffers}
 use Rattle.writer.proofs.Lowest.{passes}
 
--- a choice whose first side is x is x, where its second side is
-either : {A : Type 0} {x y : A} (t : Bool) → (t ≡ false → x ≡ y) → x ≡ pick t x y
-either {A} {x} t f = pick-elim (λ (v : A). x ≡ v) t _ _ (λ e. refl) f
-
-module _ (n m items : ℕ) (table slots out : List ℕ) {A : Type 0} (refuse : ℕ → ℕ → A) (fine : A) where
-  pub at-short : (LongEnough table slots out → ⊥) → refuse 1 0 ≡ checked n m items table slots out refuse fine
+module _ (n m items : ℕ) (l : Lent) (out : List ℕ) {A : Type 0} (refuse : ℕ → ℕ → A) (fine : A) where
+  pub at-short : (LongEnough (buffers l out) → ⊥) → refuse 1 0 ≡ checked n m items l out refuse fine
   unfolding checked
-  at-short none =
-      either (less (length table) 2048)
-      (λ a. either (less (length slots) 2176)
-      (λ b. either (less (length out) 31110)
-      (λ c. absurd (none (record { table-size = less-off _ _ a; slots-size = less-off _ _ b; out-size = less-off _ _ c })))))
+  at-short none = let s : anyShort (buffers l out) ≡ true = short-on (buffers l out) none in search tests
 
-  module _ (long : LongEnough table slots out) where
-    pub at-device : (AllowedDevice n m → ⊥) → refuse 5 0 ≡ checked n m items table slots out refuse fine
+  module _ (long : LongEnough (buffers l out)) where
+    enough : anyShort (buffers l out) ≡ false
+    enough = long-off (buffers l out) long
+
+    pub at-device : (AllowedDevice n m → ⊥) → refuse 5 0 ≡ checked n m items l out refuse fine
     unfolding checked
-    at-device none =
-        less-no _ _ _ (length table) 2048 (long .table-size)
-        (less-no _ _ _ (length slots) 2176 (long .slots-size)
-        (less-no _ _ _ (length out) 31110 (long .out-size)
-        (either (less n 1)
-        (λ a. either (less 64 n)
-        (λ b. either (less m 1)
-        (λ c. either (less 32 m)
-        (λ d. absurd (none (record { n-low = less-off _ _ a; n-high = less-off _ _ b; m-low = less-off _ _ c; m-high = less-off _ _ d })))))))))
+    at-device none = let s = enough in let d : not (deviceFine n m) ≡ true = device-off n m none in search tests
 
     module _ (device : AllowedDevice n m) where
-      pub at-count : 64 < items → refuse 7 0 ≡ checked n m items table slots out refuse fine
+      sizes-fine : not (deviceFine n m) ≡ false
+      sizes-fine = ap not (device-of n m device)
+
+      pub at-count : 64 < items → refuse 7 0 ≡ checked n m items l out refuse fine
       unfolding checked
-      at-count h = search tests depth 14
+      at-count h = let s = enough in let d = sizes-fine in search tests depth 8
 
       module _ (few : items ≤ 64) where
-        pub at-entry : lowestEntry n (n * m) table < n * m → refuse 5 (lowestEntry n (n * m) table) ≡ checked n m items table slots out refuse fine
+        pub at-entry : lowestEntry n (n * m) (l .table) < n * m → refuse 5 (lowestEntry n (n * m) (l .table)) ≡ checked n m items l out refuse fine
         unfolding checked
-        at-entry h = search tests depth 14
+        at-entry h = let s = enough in let d = sizes-fine in search tests depth 8
 
-        module _ (entries : n * m ≤ lowestEntry n (n * m) table) where
-          pub at-slot : lowestSlot n m items slots < items → refuse 5 (lowestSlot n m items slots) ≡ checked n m items table slots out refuse fine
+        module _ (entries : n * m ≤ lowestEntry n (n * m) (l .table)) where
+          pub at-slot : lowestSlot n m items (l .slots) < items → refuse 5 (lowestSlot n m items (l .slots)) ≡ checked n m items l out refuse fine
           unfolding checked
-          at-slot h = search tests depth 14
+          at-slot h = let s = enough in let d = sizes-fine in search tests depth 8
 
-          pub at-end : items ≤ lowestSlot n m items slots → fine ≡ checked n m items table slots out refuse fine
+          pub at-end : items ≤ lowestSlot n m items (l .slots) → fine ≡ checked n m items l out refuse fine
           unfolding checked
-          at-end h = search tests depth 14
+          at-end h = let s = enough in let d = sizes-fine in search tests depth 8
 
 -- ---- for the code
 pub counts-fine : (n m c : ℕ) (s : List ℕ) → c ≤ lowestSlot n m c s → CountsFine c s

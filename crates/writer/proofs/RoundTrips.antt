@@ -7,11 +7,12 @@ use Prim.Native.Nat.{ℕ, _<_, _≤_}
 use native.Mathlib.Omega.{arith}
 use lib.ListN.{length, take}
 use Rattle.base.specs.Lists.{Bytes}
+use Rattle.base.specs.Sizes.{LongEnough}
 use Rattle.book.specs.Book.{Book, AllowedBook, bytesOf, WellFormed}
-use Rattle.book.specs.Lent.{Holds}
+use Rattle.book.specs.Lent.{Lent, Holds}
 use Rattle.book.proofs.Largest.{length-book}
 use Rattle.writer.specs.declared.Writing.{Writing}
-use Rattle.writer.specs.Writes.{LongEnough, Refuses, BookWritten, Writes}
+use Rattle.writer.specs.Writes.{buffers, Refuses, BookWritten, Writes}
 use Rattle.writer.specs.Writes.Refuses.{short, device, count, entry, slot}
 use Rattle.writer.specs.Writes.Writes.{refused, done}
 use Rattle.writer.proofs.Answers.{held-written}
@@ -20,31 +21,31 @@ use Rattle.writer.proofs.Answers.{held-written}
 pub book-bytes : {book out : List ℕ} {r : Writing} {out′ : List ℕ} → BookWritten book out r out′ → take (r .length) out′ ≡ book
 book-bytes {out′ = out′} w = ap (λ (x : Writing). take (x .length) out′) (w .answer) ∙ w .bytes .front
 
-module _ {n m items : ℕ} {table slots out : List ℕ} where
+module _ {n m items : ℕ} {l : Lent} {out : List ℕ} where
   -- every refusal has a code
-  some-code : {code place : ℕ} → Refuses n m items table slots out code place → 0 < code
+  some-code : {code place : ℕ} → Refuses n m items l out code place → 0 < code
   some-code (short h) = omega arith
-  some-code (device l h) = omega arith
-  some-code (count l d h) = omega arith
-  some-code (entry l d f w) = omega arith
-  some-code (slot l d f e w) = omega arith
+  some-code (device g h) = omega arith
+  some-code (count g d h) = omega arith
+  some-code (entry g d f w) = omega arith
+  some-code (slot g d f e w) = omega arith
 
   module _ {r : Writing} {out′ : List ℕ} where
     -- 0 is answered where the book was written
-    pub done-of : r .code ≡ 0 → Writes n m items table slots out r out′
-        → LongEnough table slots out × ((b : Book) × AllowedBook b × Holds n m items table slots b × BookWritten (bytesOf b) out r out′)
+    pub done-of : r .code ≡ 0 → Writes n m items l out r out′
+        → LongEnough (buffers l out) × ((b : Book) × AllowedBook b × Holds n m items l b × BookWritten (bytesOf b) out r out′)
     done-of z (refused q e f) = absurd (omega (arith, some-code q, ap (λ (x : Writing). x .code) e))
     done-of z (done long b a h w) = (long, (b, a, h, w))
 
-    pub write-length : Writes n m items table slots out r out′ → r .length ≤ 31110
+    pub write-length : Writes n m items l out r out′ → r .length ≤ 31110
     write-length (refused q e f) = omega (arith, ap (λ (x : Writing). x .length) e)
     write-length (done long b a h w) = omega (arith, ap (λ (x : Writing). x .length) (w .answer), length-book b a)
 
-    pub write-well-formed : Writes n m items table slots out r out′ → r .code ≡ 0 → WellFormed (take (r .length) out′)
+    pub write-well-formed : Writes n m items l out r out′ → r .code ≡ 0 → WellFormed (take (r .length) out′)
     write-well-formed x z = let (long, (b, a, h, w)) = done-of z x in (b, a, sym (book-bytes w))
 
-    pub writes-zero↔ : Bytes slots → Writes n m items table slots out r out′
-        → (r .code ≡ 0) ↔ (LongEnough table slots out × ((b : Book) × AllowedBook b × Holds n m items table slots b))
+    pub writes-zero↔ : Bytes (l .slots) → Writes n m items l out r out′
+        → (r .code ≡ 0) ↔ (LongEnough (buffers l out) × ((b : Book) × AllowedBook b × Holds n m items l b))
     writes-zero↔ s x = (
       (λ z. let (long, (b, a, h, w)) = done-of z x in (long, (b, a, h))),
       λ (long, (b, a, h)). ap (λ (y : Writing). y .code) (held-written s x long a h .answer),

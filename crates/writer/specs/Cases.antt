@@ -3,6 +3,7 @@
 use mathlib.Core.List.{List, [], _∷_, _++_}
 use Prim.Native.Nat.{ℕ}
 use lib.ListN.{take, drop, replicate}
+use Rattle.book.specs.Lent.{lent}
 use Rattle.book.specs.Example.{firstSlots}
 use Rattle.writer.specs.Writes.{Refuses}
 
@@ -11,19 +12,19 @@ zeros k = replicate k 0
 
 pub record Spoilt : Type 0 where
   -- "1", then 5 for n
-  pub short-table : Refuses 0 3 65 (zeros 2047) (zeros 2176) (zeros 31110) 1 0
-  pub short-slots : Refuses 0 3 65 (zeros 2048) (zeros 2175) (zeros 31110) 1 0
-  pub short-output : Refuses 0 3 65 (zeros 2048) (zeros 2176) (zeros 31109) 1 0
+  pub short-table : Refuses 0 3 65 (lent (zeros 2047) (zeros 2176)) (zeros 31110) 1 0
+  pub short-slots : Refuses 0 3 65 (lent (zeros 2048) (zeros 2175)) (zeros 31110) 1 0
+  pub short-output : Refuses 0 3 65 (lent (zeros 2048) (zeros 2176)) (zeros 31109) 1 0
   -- "5 at place 0 for n or m", then 7
-  pub no-states : Refuses 0 3 65 (zeros 2048) (zeros 2176) (zeros 31110) 5 0
-  pub states-65 : Refuses 65 3 65 (zeros 2048) (zeros 2176) (zeros 31110) 5 0
-  pub no-commands : Refuses 3 0 65 (zeros 2048) (zeros 2176) (zeros 31110) 5 0
-  pub commands-33 : Refuses 3 33 65 (zeros 2048) (zeros 2176) (zeros 31110) 5 0
+  pub no-states : Refuses 0 3 65 (lent (zeros 2048) (zeros 2176)) (zeros 31110) 5 0
+  pub states-65 : Refuses 65 3 65 (lent (zeros 2048) (zeros 2176)) (zeros 31110) 5 0
+  pub no-commands : Refuses 3 0 65 (lent (zeros 2048) (zeros 2176)) (zeros 31110) 5 0
+  pub commands-33 : Refuses 3 33 65 (lent (zeros 2048) (zeros 2176)) (zeros 31110) 5 0
   -- "7 at place 0 for a count above 64", then 5 for entry 1
-  pub count-65 : Refuses 3 3 65 (0 ∷ 8 ∷ zeros 2046) (zeros 2176) (zeros 31110) 7 0
+  pub count-65 : Refuses 3 3 65 (lent (0 ∷ 8 ∷ zeros 2046) (zeros 2176)) (zeros 31110) 7 0
   -- "5 at the lowest index of an entry with a bit at n or above": entry 2, and entry 3 too; then 5 for slot 0
-  pub entry-2 : Refuses 3 3 1 (0 ∷ 0 ∷ 8 ∷ 8 ∷ zeros 2044) (zeros 2176) (zeros 31110) 5 2
+  pub entry-2 : Refuses 3 3 1 (lent (0 ∷ 0 ∷ 8 ∷ 8 ∷ zeros 2044) (zeros 2176)) (zeros 31110) 5 2
   -- "5 at the lowest slot whose fields break an item's limits": slot 1 has k = 0, and slot 2 too
-  pub slot-1 : Refuses 3 3 3 (zeros 2048) (take 34 firstSlots ++ zeros 2142) (zeros 31110) 5 1
+  pub slot-1 : Refuses 3 3 3 (lent (zeros 2048) (take 34 firstSlots ++ zeros 2142)) (zeros 31110) 5 1
   -- "or whose unused command bytes aren't zero": the second forward byte of slot 0, whose k is 1
-  pub unused-byte : Refuses 3 3 1 (zeros 2048) (1 ∷ 2 ∷ 2 ∷ 1 ∷ drop 4 firstSlots ++ zeros 2108) (zeros 31110) 5 0
+  pub unused-byte : Refuses 3 3 1 (lent (zeros 2048) (1 ∷ 2 ∷ 2 ∷ 1 ∷ drop 4 firstSlots ++ zeros 2108)) (zeros 31110) 5 0

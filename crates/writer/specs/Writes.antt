@@ -1,20 +1,19 @@
 -- What writing answers (01, "Writing"), for the reader. Assumes nothing: these are definitions.
 use mathlib.Core.Path.{_≡_}
-use mathlib.Core.List.{List}
+use mathlib.Core.List.{List, [], _∷_, _++_}
 use Prim.Native.Nat.{ℕ, _*_, _<_, _≤_}
 use lib.ListN.{length, getD}
 use Rattle.base.specs.Sets.{NoBitFrom}
 use Rattle.base.specs.Lists.{Written}
+use Rattle.base.specs.Sizes.{Sized, _for_, LongEnough}
 use Rattle.reversal.specs.Device.{tabled}
 use Rattle.book.specs.Book.{Book, AllowedDevice, AllowedBook, bytesOf}
-use Rattle.book.specs.Lent.{SlotAllowed, Holds}
+use Rattle.book.specs.Lent.{Lent, sizes, SlotAllowed, Holds}
 use Rattle.writer.specs.declared.Writing.{Writing}
 
--- "a table (2,048 entries of 64 bits ..) and slots (64 of 34 bytes ..)", "an output buffer of at least 31,110 bytes"
-pub record LongEnough (table slots out : List ℕ) : Type 0 where
-  pub table-size : 2048 ≤ length table
-  pub slots-size : 64 * 34 ≤ length slots
-  pub out-size : 31110 ≤ length out
+-- the lengths stated for table and slots; "an output buffer of at least 31,110 bytes"
+abbrev pub buffers : Lent → List ℕ → List Sized
+buffers l out = sizes l ++ (length out for 31110) ∷ []
 
 -- "the lowest": of the numbers below k, the first at which P does not hold
 pub record LowestWrong (P : ℕ → Type 0) (k i : ℕ) : Type 0 where
@@ -31,19 +30,19 @@ abbrev pub SlotRight : ℕ → ℕ → List ℕ → List ℕ → ℕ → Type 0
 SlotRight n m table slots i = SlotAllowed (tabled n m table) slots i
 
 -- "It refuses .. in this order": each case says that none before it holds. "Entries from n × m on and slots past the count are ignored."
-pub data Refuses (n m items : ℕ) (table slots out : List ℕ) : ℕ → ℕ → Type 0 where
+pub data Refuses (n m items : ℕ) (l : Lent) (out : List ℕ) : ℕ → ℕ → Type 0 where
   -- "1": "a lent buffer shorter than stated"
-  short : (LongEnough table slots out → ⊥) → Refuses n m items table slots out 1 0
+  short : (LongEnough (buffers l out) → ⊥) → Refuses n m items l out 1 0
   -- "5 at place 0 for n or m"
-  device : LongEnough table slots out → (AllowedDevice n m → ⊥) → Refuses n m items table slots out 5 0
+  device : LongEnough (buffers l out) → (AllowedDevice n m → ⊥) → Refuses n m items l out 5 0
   -- "7 at place 0 for a count above 64"
-  count : LongEnough table slots out → AllowedDevice n m → 64 < items → Refuses n m items table slots out 7 0
+  count : LongEnough (buffers l out) → AllowedDevice n m → 64 < items → Refuses n m items l out 7 0
   -- "5 at the lowest index of an entry with a bit at n or above"
-  entry : {i : ℕ} → LongEnough table slots out → AllowedDevice n m → items ≤ 64 → LowestWrong (EntryRight n table) (n * m) i
-      → Refuses n m items table slots out 5 i
+  entry : {i : ℕ} → LongEnough (buffers l out) → AllowedDevice n m → items ≤ 64 → LowestWrong (EntryRight n (l .table)) (n * m) i
+      → Refuses n m items l out 5 i
   -- "5 at the lowest slot whose fields break an item's limits or whose unused command bytes aren't zero"
-  slot : {i : ℕ} → LongEnough table slots out → AllowedDevice n m → items ≤ 64 → ((j : ℕ) → j < n * m → EntryRight n table j)
-      → LowestWrong (SlotRight n m table slots) items i → Refuses n m items table slots out 5 i
+  slot : {i : ℕ} → LongEnough (buffers l out) → AllowedDevice n m → items ≤ 64 → ((j : ℕ) → j < n * m → EntryRight n (l .table) j)
+      → LowestWrong (SlotRight n m (l .table) (l .slots)) items i → Refuses n m items l out 5 i
 
 -- "It refuses, output untouched, length 0"
 abbrev pub refusal : ℕ → ℕ → Writing
@@ -60,8 +59,8 @@ pub record BookWritten (book out : List ℕ) (r : Writing) (out′ : List ℕ) :
 
 -- the result r and the output out′ of writing: "Writing takes n, m, an item count, table, slots and an output buffer". What it writes is the allowed
 -- book that they hold.
-pub data Writes (n m items : ℕ) (table slots out : List ℕ) (r : Writing) (out′ : List ℕ) : Type 0 where
-  refused : {code place : ℕ} → Refuses n m items table slots out code place → r ≡ refusal code place → out′ ≡ out
-      → Writes n m items table slots out r out′
-  done : LongEnough table slots out → (b : Book) → AllowedBook b → Holds n m items table slots b → BookWritten (bytesOf b) out r out′
-      → Writes n m items table slots out r out′
+pub data Writes (n m items : ℕ) (l : Lent) (out : List ℕ) (r : Writing) (out′ : List ℕ) : Type 0 where
+  refused : {code place : ℕ} → Refuses n m items l out code place → r ≡ refusal code place → out′ ≡ out
+      → Writes n m items l out r out′
+  done : LongEnough (buffers l out) → (b : Book) → AllowedBook b → Holds n m items l b → BookWritten (bytesOf b) out r out′
+      → Writes n m items l out r out′

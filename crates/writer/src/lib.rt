@@ -6,6 +6,7 @@ use checks::lowest_entry;
 use checks::lowest_slot;
 use records::put_book;
 ghost use mathlib.Core.Path.{_≡_};
+ghost use Rattle.book.specs.Lent.{lent};
 ghost use Rattle.writer.specs.Writes.{refusal};
 ghost use Rattle.writer.specs.Contract.{WriteAs};
 
@@ -30,7 +31,7 @@ fn refused(code: u64, place: u64) -> Writing
 
 // Writes the book at the start of `out`, or answers why there is none and leaves `out` as it was.
 pub fn write(n: u64, m: u64, items: u64, table: &[u64], slots: &[u8], out: &mut [u8]) -> Writing
-    ensures { λ r. ⌜ WriteAs n m items (now (table .entry)) (now (slots .entry)) (now (out .entry)) r (now (out .exit)) ⌝ }
+    ensures { λ r. ⌜ WriteAs n m items (lent (now (table .entry)) (now (slots .entry))) (now (out .entry)) r (now (out .exit)) ⌝ }
 {
     if table.len() < 2048 {
         return refused(1, 0);
@@ -41,17 +42,8 @@ pub fn write(n: u64, m: u64, items: u64, table: &[u64], slots: &[u8], out: &mut 
     if out.len() < 31110 {
         return refused(1, 0);
     }
-    if n < 1 {
-        return refused(5, 0); // no state
-    }
-    if 64 < n {
-        return refused(5, 0); // too many states
-    }
-    if m < 1 {
-        return refused(5, 0); // no command
-    }
-    if 32 < m {
-        return refused(5, 0); // too many commands
+    if !limits::device_fine(n, m) {
+        return refused(5, 0);
     }
     if 64 < items {
         return refused(7, 0);

@@ -28,12 +28,15 @@ device-fine-requires : tie.Need-device-fine-requires
 device-fine-requires c κs = search needs
 
 returns-3 : tie.Need-returns-3
-returns-3 c = (simp (← c .before .before .before .byte-at .ensures .0, ← c .before .before .byte-at2 .ensures .0) (search (tests, calls) depth 16), search needs)
+returns-3 c =
+    let b = c .before .before in
+    (simp (← b .before .byte-at .ensures .0, ← b .byte-at2 .ensures .0) (search (tests, calls) depth 16), search needs)
 
 returns-4 : tie.Need-returns-4
 returns-4 c =
+    let b = c .before .before in
     let d = device-on _ _ (sym (c .before .device-fine .ensures) ∙ not-false _ (c .if3 .left)) in (
-      simp (← c .before .before .before .byte-at .ensures .0, ← c .before .before .byte-at2 .ensures .0) (search (tests, calls) depth 16),
+      simp (← b .before .byte-at .ensures .0, ← b .byte-at2 .ensures .0) (search (tests, calls) depth 16),
       record { n-high = d .n-high; m-high = d .m-high; few = omega arith },
     )
 

@@ -63,9 +63,11 @@ fields-fine-requires c κs = search needs
 
 returns : tie.Need-returns
 returns c =
-    let a = c .before .before .before .before .before .before .args in
-    c .fields-fine .ensures
-    ∙ ap (fieldsFine (a .n) (a .m)) (item-is (a .body .now) (a .k) (a .r) (c .before .before .before .before .before .before .pre) _ _ (c .before .before .before .before .u64-at .ensures) (c .before .before .before .u64-at2 .ensures))
+    let q = c .before .before .before in
+    let e = q .before .before .before in
+    let a = e .args in
+    let is = item-is (a .body .now) (a .k) (a .r) (e .pre) _ _ (q .before .u64-at .ensures) (q .u64-at2 .ensures) in
+    c .fields-fine .ensures ∙ ap (fieldsFine (a .n) (a .m)) is
 
 pub item-fine-spec : {M : Type 1} → statement M
 item-fine-spec =

@@ -32,7 +32,9 @@ counts-fine-requires : tie.Need-counts-fine-requires
 counts-fine-requires c κs = search needs
 
 returns-4 : tie.Need-returns-4
-returns-4 c = (simp (← c .before .before .before .byte-at .ensures .0, ← c .before .before .byte-at2 .ensures .0) (search (tests, calls) depth 12), search needs)
+returns-4 c =
+    let b = c .before .before in
+    (simp (← b .before .byte-at .ensures .0, ← b .byte-at2 .ensures .0) (search (tests, calls) depth 12), search needs)
 
 add-if5 : tie.Need-add-if5
 add-if5 c = search needs
@@ -41,21 +43,29 @@ add-if5-2 : tie.Need-add-if5-2
 add-if5-2 c = search needs
 
 returns-5 : tie.Need-returns-5
-returns-5 c = (simp (← c .before .before .before .before .byte-at .ensures .0, ← c .before .before .before .byte-at2 .ensures .0) (search (tests, calls) depth 14), search needs)
+returns-5 c =
+    let b = c .before .before .before in
+    (simp (← b .before .byte-at .ensures .0, ← b .byte-at2 .ensures .0) (search (tests, calls) depth 14), search needs)
 
 item-fine-requires : tie.Need-item-fine-requires
 item-fine-requires c κs =
-    let q = counts-on _ _ (sym (c .before .before .counts-fine .ensures) ∙ not-false _ (c .before .if4 .left)) in
-    record { k-is = c .before .before .before .before .byte-at .ensures .0; r-is = c .before .before .before .byte-at2 .ensures .0; k-high = q .1; r-high = q .2; size = omega arith }
+    let f = c .before .before in
+    let b = f .before in
+    let q = counts-on _ _ (sym (f .counts-fine .ensures) ∙ not-false _ (c .before .if4 .left)) in
+    record { k-is = b .before .byte-at .ensures .0; r-is = b .byte-at2 .ensures .0; k-high = q .1; r-high = q .2; size = omega arith }
 
 returns-6 : tie.Need-returns-6
-returns-6 c = (simp (← c .before .before .before .before .before .before .byte-at .ensures .0, ← c .before .before .before .before .before .byte-at2 .ensures .0) (search (tests, calls) depth 16), search needs)
+returns-6 c =
+    let b = c .before .before .before .before .before in
+    (simp (← b .before .byte-at .ensures .0, ← b .byte-at2 .ensures .0) (search (tests, calls) depth 16), search needs)
 
 add-t12 : tie.Need-add-t12
 add-t12 c = search needs
 
 returns-7 : tie.Need-returns-7
-returns-7 c = (simp (← c .before .before .before .before .before .before .before .byte-at .ensures .0, ← c .before .before .before .before .before .before .byte-at2 .ensures .0) (search (tests, calls) depth 16), search needs)
+returns-7 c =
+    let b = c .before .before .before .before .before .before in
+    (simp (← b .before .byte-at .ensures .0, ← b .byte-at2 .ensures .0) (search (tests, calls) depth 16), search needs)
 
 pub item-step-spec : {M : Type 1} → statement M
 item-step-spec =

@@ -32,30 +32,45 @@ move-fine-requires c κs = search needs
 
 returns-3 : tie.Need-returns-3
 unfolding moveOf
-returns-3 c = (simp (← c .before .before .before .before .byte-at .ensures .0, ← c .before .before .before .byte-at2 .ensures .0, ← c .before .before .u64-at .ensures) (search (tests, calls) depth 16), search needs)
+returns-3 c =
+    let u = c .before .before in
+    let b = u .before in
+    let a = b .before in
+    (simp (← a .byte-at .ensures .0, ← b .byte-at2 .ensures .0, ← u .u64-at .ensures) (search (tests, calls) depth 16), search needs)
 
 mul-index : tie.Need-mul-index
 mul-index c =
-    let a = c .before .before .before .before .before .before .before .before .before .before .args in
-    omega (arith, index-small (c .before .before .before .before .before .byte-at .result) (a .st .m) (c .before .before .before .before .byte-at2 .result) (omega arith) (omega arith) (omega arith))
+    let a = c .before .before .before .before .before in
+    let st = a .before .before .before .before .before .args .st in
+    omega (arith, index-small (a .byte-at .result) (st .m) (c .before .before .before .before .byte-at2 .result) (omega arith) (omega arith) (omega arith))
 
 add-index : tie.Need-add-index
 add-index c =
-    let a = c .before .before .before .before .before .before .before .before .before .before .args in
-    omega (arith, index-small (c .before .before .before .before .before .byte-at .result) (a .st .m) (c .before .before .before .before .byte-at2 .result) (omega arith) (omega arith) (omega arith))
+    let a = c .before .before .before .before .before in
+    let st = a .before .before .before .before .before .args .st in
+    omega (arith, index-small (a .byte-at .result) (st .m) (c .before .before .before .before .byte-at2 .result) (omega arith) (omega arith) (omega arith))
 
 returns-4 : tie.Need-returns-4
 unfolding moveOf
-returns-4 c = (simp (← c .before .before .before .before .before .before .before .byte-at .ensures .0, ← c .before .before .before .before .before .before .byte-at2 .ensures .0, ← c .before .before .before .before .before .u64-at .ensures) (search (tests, calls) depth 20), search needs)
+returns-4 c =
+    let u = c .before .before .before .before .before in
+    let b = u .before in
+    let a = b .before in
+    (simp (← a .byte-at .ensures .0, ← b .byte-at2 .ensures .0, ← u .u64-at .ensures) (search (tests, calls) depth 20), search needs)
 
 add-t10 : tie.Need-add-t10
 add-t10 c =
-    let a = c .before .before .before .before .before .before .before .before .before .before .before .before .args in
-    omega (arith, index-small (c .before .before .before .before .before .before .before .byte-at .result) (a .st .m) (c .before .before .before .before .before .before .byte-at2 .result) (omega arith) (omega arith) (omega arith))
+    let a = c .before .before .before .before .before .before .before in
+    let st = a .before .before .before .before .before .args .st in
+    omega (arith, index-small (a .byte-at .result) (st .m) (c .before .before .before .before .before .before .byte-at2 .result) (omega arith) (omega arith) (omega arith))
 
 returns-5 : tie.Need-returns-5
 unfolding moveOf
-returns-5 c = (simp (← c .before .before .before .before .before .before .before .byte-at .ensures .0, ← c .before .before .before .before .before .before .byte-at2 .ensures .0, ← c .before .before .before .before .before .u64-at .ensures) (search (tests, calls) depth 20), search needs)
+returns-5 c =
+    let u = c .before .before .before .before .before in
+    let b = u .before in
+    let a = b .before in
+    (simp (← a .byte-at .ensures .0, ← b .byte-at2 .ensures .0, ← u .u64-at .ensures) (search (tests, calls) depth 20), search needs)
 
 pub move-step-spec : {M : Type 1} → statement M
 move-step-spec =

@@ -15,6 +15,7 @@ use Rattle.book.specs.Book.{Book, AllowedDevice, AllowedBook, bytesOf}
 use Rattle.book.specs.Lent.{Lent, Holds}
 use Rattle.base.proofs.Lists.{stored, same-written}
 use Rattle.base.proofs.Sizes.{long-or-not}
+use Rattle.base.proofs.Lowest.{Tells, lowest-wrong, none-wrong, wrong-lowest, wrong-none}
 use Rattle.book.specs.Buffers.{bookFrom, SlotFine, Writable}
 use Rattle.book.proofs.Limits.{device-or-not}
 use Rattle.book.proofs.Fields.{clear-of, clear-on}
@@ -28,7 +29,6 @@ use Rattle.writer.specs.Writes.{buffers, EntryRight, SlotRight, Refuses,
 use Rattle.writer.specs.Writes.Refuses.{short, device, count, entry, slot}
 use Rattle.writer.specs.Writes.Writes.{refused, done}
 use Rattle.writer.proofs.Slots.{slot-right, slot-passes}
-use Rattle.writer.proofs.Lowest.{Tells, lowest-wrong, none-wrong, wrong-lowest, wrong-none}
 use Rattle.writer.proofs.Chain.{at-short, at-device, at-count, at-entry, at-slot, at-end}
 
 -- ---- the output

@@ -1,20 +1,21 @@
 -- The contract of checking gives what 01 says; the first item that the test turns down is the first that is no conditional reverse plan by
 -- trajectories. Assumes nothing.
 use mathlib.Core.Path.{_≡_, refl, ap, _∙_}
-use mathlib.Core.Bool.{Bool, true, false, not}
+use mathlib.Core.Bool.{true}
 use mathlib.Core.Logic.{_↔_}
 use mathlib.Core.List.{List}
-use Prim.Native.Nat.{ℕ, _≤_, _<_, zero-le}
+use Prim.Native.Nat.{ℕ, _≤_, _<_}
 use native.Mathlib.Omega.{arith}
 use native.Mathlib.Decide.{decLt}
-use lib.Dec.{T, T-not}
+use lib.Dec.{T}
 use lib.ListN.{length}
 use Rattle.base.specs.Lists.{Each}
 use Rattle.base.specs.Sizes.{LongEnough}
 use Rattle.base.specs.Shorter.{anyShort}
 use Rattle.base.proofs.Lists.{each-at, each-of}
 use Rattle.base.proofs.Sizes.{on-short}
-use Rattle.base.proofs.Bounded.{seek-hit, seek-low}
+use Rattle.base.proofs.Tests.{T-true, true-T}
+use Rattle.base.proofs.Lowest.{Tells, fails, lowest-wrong, none-wrong as none-lowest, wrong-none}
 use Rattle.reversal.specs.Reversal.{AllowedItem, Accepted}
 use Rattle.reversal.specs.Chains.{absent, item}
 use Rattle.reversal.specs.Computed.Sets.{accepts}
@@ -39,17 +40,12 @@ use Rattle.checker.proofs.Judging.{one-wrong, all-accepted as none-turn
 
 -- ---- the judgement of a book, by its test
 module _ (b : Book) where
-  hit : wrongItem b < length (b .items) → T (not (accepts (deviceOf b) (item (b .items) (wrongItem b))))
-  unfolding wrongItem
-  hit h = seek-hit (λ j. not (accepts (deviceOf b) (item (b .items) j))) (length (b .items)) 0 (omega arith)
-
   pub by-wrong : wrongItem b < length (b .items) → {A : Type 0} (refuse : ℕ → ℕ → A) (found : A)
       → onJudgement (judgementOf b) refuse found ≡ refuse 8 (placeOf b (wrongItem b))
-  by-wrong h refuse found = ap (λ (j : Judgement). onJudgement j refuse found) (one-wrong b h (go (accepts (deviceOf b) (item (b .items) (wrongItem b))) refl))
-    where
-      go : (x : Bool) → accepts (deviceOf b) (item (b .items) (wrongItem b)) ≡ x → accepts (deviceOf b) (item (b .items) (wrongItem b)) ≡ false
-      go true e = absurd (rw e at (hit h))
-      go false e = e
+  unfolding wrongItem
+  by-wrong h refuse found =
+      ap (λ (j : Judgement). onJudgement j refuse found)
+      (one-wrong b h (fails (λ i. accepts (deviceOf b) (item (b .items) i)) (length (b .items)) h))
 
   pub by-none : length (b .items) ≤ wrongItem b → {A : Type 0} (refuse : ℕ → ℕ → A) (found : A) → onJudgement (judgementOf b) refuse found ≡ found
   by-none h refuse found = ap (λ (j : Judgement). onJudgement j refuse found) (none-turned-down b h)
@@ -60,33 +56,21 @@ module _ (b : Book) (a : AllowedBook b) where
   accepted↔ i l =
       accepts↔ (deviceOf b) (device-proper b a) (item (b .items) i) (each-at (AllowedItem (deviceOf b)) (b .items) (a .each-item) i absent l .psi-states)
 
-  -- every item before the one found is accepted
-  accepted-before : (i : ℕ) → i < wrongItem b → i < length (b .items) → Accepted (deviceOf b) (item (b .items) i)
-  unfolding wrongItem
-  accepted-before i h l = go (accepts (deviceOf b) (item (b .items) i)) refl
-    where
-      go : (x : Bool) → accepts (deviceOf b) (item (b .items) i) ≡ x → Accepted (deviceOf b) (item (b .items) i)
-      go true e = accepted↔ i l .0 (rw e tt)
-      go false e = absurd (omega (arith, seek-low (λ j. not (accepts (deviceOf b) (item (b .items) j))) (length (b .items)) 0 i zero-le (omega arith) (rw e tt)))
+  tells : Tells (λ i. accepts (deviceOf b) (item (b .items) i)) (λ i. Accepted (deviceOf b) (item (b .items) i)) (length (b .items))
+  tells = record { on = λ i l e. accepted↔ i l .0 (true-T _ e); of = λ i l p. T-true _ (accepted↔ i l .1 p) }
 
   pub first-wrong : wrongItem b < length (b .items) → FirstWrong b (wrongItem b)
-  first-wrong h =
-      record {
-        known = h;
-        wrong = λ q. T-not (accepts (deviceOf b) (item (b .items) (wrongItem b))) (hit b h) (accepted↔ (wrongItem b) h .1 q);
-        before = λ j l. accepted-before j l (omega arith);
-      }
+  unfolding wrongItem
+  first-wrong h = lowest-wrong _ (length (b .items)) tells h
 
   pub all-accepted : length (b .items) ≤ wrongItem b → Each (Accepted (deviceOf b)) (b .items)
-  all-accepted h = each-of (Accepted (deviceOf b)) (b .items) absent (λ i l. accepted-before i (omega arith) l)
+  unfolding wrongItem
+  all-accepted h = each-of (Accepted (deviceOf b)) (b .items) absent (none-lowest _ (length (b .items)) tells h)
 
   -- and the other way
   pub none-wrong : Each (Accepted (deviceOf b)) (b .items) → length (b .items) ≤ wrongItem b
-  none-wrong e = go (decLt (wrongItem b) (length (b .items)))
-    where
-      go : Dec (wrongItem b < length (b .items)) → length (b .items) ≤ wrongItem b
-      go (yes l) = absurd (first-wrong l .wrong (each-at (Accepted (deviceOf b)) (b .items) e (wrongItem b) absent l))
-      go (no l) = omega arith
+  unfolding wrongItem
+  none-wrong e = wrong-none _ (length (b .items)) tells (λ i l. each-at (Accepted (deviceOf b)) (b .items) e i absent l)
 
 -- ---- the call
 module _ {s : List ℕ} {l : Lent} {r : Reading} {l′ : Lent} (c : CheckAs s l r l′) where

@@ -3,12 +3,12 @@
 use mathlib.Core.Path.{_≡_, sym, ap, _∙_, subst}
 use mathlib.Core.Logic.{_↔_}
 use mathlib.Core.List.{List}
-use Prim.Native.Nat.{ℕ, _≤_, _<_}
-use native.Mathlib.Decide.{decLt}
+use Prim.Native.Nat.{ℕ, _≤_}
 use native.Mathlib.Omega.{arith}
 use Rattle.base.specs.Lists.{Bytes}
 use Rattle.base.specs.Sizes.{LongEnough}
 use Rattle.base.proofs.Lists.{each-at}
+use Rattle.base.proofs.Lowest.{one-lowest}
 use Rattle.reversal.specs.Reversal.{Accepted}
 use Rattle.reversal.specs.Chains.{absent}
 use Rattle.book.specs.Book.{Book, deviceOf, AllowedBook, bytesOf}
@@ -24,15 +24,10 @@ use Rattle.checker.specs.Verdicts.{CheckCode, by-reading, by-verdict}
 use Rattle.checker.specs.Checks.{AllAccepted, AcceptedBook, placeOf, FirstWrong, Checked, Checks, unread, wrong, fine}
 
 one-wrong : (b : Book) {i j : ℕ} → FirstWrong b i → FirstWrong b j → i ≡ j
-one-wrong b {i} {j} f g = go (decLt i j) (decLt j i)
-  where
-    go : Dec (i < j) → Dec (j < i) → i ≡ j
-    go (yes l) y = absurd (f .wrong (g .before i l))
-    go (no l) (yes h) = absurd (g .wrong (f .before j h))
-    go (no l) (no h) = omega arith
+one-wrong b f g = one-lowest f g
 
 none-wrong : (b : Book) {i : ℕ} → FirstWrong b i → AllAccepted b → ⊥
-none-wrong b {i} f e = f .wrong (each-at (Accepted (deviceOf b)) (b .items) e i absent (f .known))
+none-wrong b {i} f e = f .wrong (each-at (Accepted (deviceOf b)) (b .items) e i absent (f .inside))
 
 -- reading has no code above 7
 read-codes : {book : List ℕ} {l : Lent} {r : Reading} {l′ : Lent} → Reads book l r l′ → r .code ≤ 7

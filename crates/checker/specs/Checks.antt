@@ -2,9 +2,10 @@
 -- Assumes nothing: these are definitions.
 use mathlib.Core.Path.{_≡_}
 use mathlib.Core.List.{List}
-use Prim.Native.Nat.{ℕ, _<_}
+use Prim.Native.Nat.{ℕ}
 use lib.ListN.{length, take}
 use Rattle.base.specs.Lists.{Each}
+use Rattle.base.specs.Lowest.{LowestWrong}
 use Rattle.reversal.specs.Reversal.{Accepted}
 use Rattle.reversal.specs.Chains.{item}
 use Rattle.book.specs.Book.{Book, deviceOf, AllowedBook, bytesOf}
@@ -27,10 +28,8 @@ abbrev pub placeOf : Book → ℕ → ℕ
 placeOf b i = length (bytesOf (record { n = b .n; m = b .m; moves = b .moves; items = take i (b .items) }))
 
 -- item i is the first wrong one
-pub record FirstWrong (b : Book) (i : ℕ) : Type 0 where
-  pub known : i < length (b .items)
-  pub wrong : Accepted (deviceOf b) (item (b .items) i) → ⊥
-  pub before : (j : ℕ) → j < i → Accepted (deviceOf b) (item (b .items) j)
+abbrev pub FirstWrong : Book → ℕ → Type 0
+FirstWrong b i = LowestWrong (λ j. Accepted (deviceOf b) (item (b .items) j)) (length (b .items)) i
 
 -- the buffers read from a book that is accepted
 pub record Checked (book : List ℕ) (l : Lent) (b : Book) (l′ : Lent) : Type 0 where

@@ -4,8 +4,6 @@ use book::Numbered;
 use book::State;
 use book::Step;
 ghost use mathlib.Core.Path.{_≡_};
-ghost use Prim.Native.Nat.{_+_, _≤_};
-ghost use lib.ListN.{length};
 ghost use Rattle.book.specs.declared.Kind.the-variants.{ADevice, AMove, AnItem};
 ghost use Rattle.book.specs.Limits.{fieldsFine};
 ghost use Rattle.book.specs.Parse.{kindOf, itemOf, judgedAs, step};

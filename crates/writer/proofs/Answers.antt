@@ -15,6 +15,7 @@ use Rattle.book.specs.Book.{Book, AllowedDevice, AllowedBook, bytesOf}
 use Rattle.book.specs.Lent.{Lent, Holds}
 use Rattle.base.proofs.Lists.{stored, same-written}
 use Rattle.base.proofs.Sizes.{long-or-not}
+use Rattle.base.proofs.Lowest.{Tells, lowest-wrong, none-wrong, wrong-lowest, wrong-none}
 use Rattle.book.specs.Slots.{slotFine}
 use Rattle.book.specs.Buffers.{bookFrom, Writable}
 use Rattle.book.proofs.Limits.{device-or-not}
@@ -28,7 +29,6 @@ use Rattle.writer.specs.Contract.{checked, bookBytes, WriteAs}
 use Rattle.writer.specs.Writes.{buffers, EntryRight, SlotRight, Refuses, refusal, written, BookWritten, Writes}
 use Rattle.writer.specs.Writes.Refuses.{short, device, count, entry, slot}
 use Rattle.writer.specs.Writes.Writes.{refused, done}
-use Rattle.writer.proofs.Lowest.{Tells, lowest-wrong, none-wrong, wrong-lowest, wrong-none}
 use Rattle.writer.proofs.Chain.{at-short, at-device, at-count, at-entry, at-slot, at-end}
 
 -- ---- the output

@@ -13,6 +13,7 @@ use Rattle.base.specs.Sizes.{LongEnough}
 use Rattle.base.specs.Shorter.{anyShort}
 use Rattle.base.proofs.Sizes.{long-off, short-on}
 use Rattle.base.proofs.Picks.{tests}
+use Rattle.base.proofs.Lowest.{passes}
 use Rattle.reversal.specs.Device.{tabled}
 use Rattle.reversal.specs.Reversal.{AllowedItem}
 use Rattle.book.specs.Book.{AllowedDevice}
@@ -25,7 +26,6 @@ use Rattle.writer.specs.Records.{CountsFine}
 use Rattle.writer.specs.Checks.{lowestEntry, lowestSlot}
 use Rattle.writer.specs.Contract.{checked}
 use Rattle.writer.specs.Writes.{buffers}
-use Rattle.writer.proofs.Lowest.{passes}
 
 module _ (n m items : ℕ) (l : Lent) (out : List ℕ) {A : Type 0} (refuse : ℕ → ℕ → A) (fine : A) where
   pub at-short : (LongEnough (buffers l out) → ⊥) → refuse 1 0 ≡ checked n m items l out refuse fine

@@ -6,6 +6,7 @@ use lib.ListN.{length, getD}
 use Rattle.base.specs.Sets.{NoBitFrom}
 use Rattle.base.specs.Lists.{Written}
 use Rattle.base.specs.Sizes.{Sized, _for_, LongEnough}
+use Rattle.base.specs.Lowest.{LowestWrong}
 use Rattle.reversal.specs.Device.{tabled}
 use Rattle.book.specs.Book.{Book, AllowedDevice, AllowedBook, bytesOf}
 use Rattle.book.specs.Lent.{Lent, sizes, SlotAllowed, Holds}
@@ -14,12 +15,6 @@ use Rattle.writer.specs.declared.Writing.{Writing}
 -- the lengths stated for table and slots; "an output buffer of at least 31,110 bytes"
 abbrev pub buffers : Lent → List ℕ → List Sized
 buffers l out = sizes l ++ (length out for 31110) ∷ []
-
--- "the lowest": of the numbers below k, the first at which P does not hold
-pub record LowestWrong (P : ℕ → Type 0) (k i : ℕ) : Type 0 where
-  pub inside : i < k
-  pub wrong : P i → ⊥
-  pub lower : (j : ℕ) → j < i → P j
 
 -- the entry i has no bit at n or above
 abbrev pub EntryRight : ℕ → List ℕ → ℕ → Type 0

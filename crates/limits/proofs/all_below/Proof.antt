@@ -28,7 +28,7 @@ returns : tie.Need-returns Inv-loop μ-loop
 returns c =
     let a = c .before .before .before .before .before .args in
     below-stop (a .m) (a .commands .now) (c .before .before .before .loop .i) (c .before .byte-at .result) (c .before .before .before .loop .inv .0) (omega arith) (c .before .byte-at .ensures .0)
-    (c .if1 .taken)
+    (omega arith)
 
 add-i : tie.Need-add-i Inv-loop μ-loop
 add-i c = omega arith
@@ -40,7 +40,7 @@ loop-again : tie.Need-loop-again Inv-loop μ-loop
 loop-again c =
     let a = c .before .before .before .before .before .args in (
       below-again (a .m) (a .commands .now) (c .before .before .before .loop .i) (c .before .byte-at .result) (c .before .before .before .loop .inv .0) (omega arith) (c .before .byte-at .ensures .0)
-          (c .if1 .left),
+          (omega arith),
       omega arith,
     )
 

@@ -5,10 +5,10 @@ use Prim.Native.Nat.{ℕ, _<_, _≤_}
 use native.Mathlib.Omega.{arith}
 use lib.Dec.{T}
 use borrow.Author.Tests.{not-true}
 use Rattle.base.specs.Bounded.{seek}
 use Rattle.base.proofs.Tests.{T-true, true-T}
 use Rattle.base.proofs.Bounded.{seek-hit, seek-low}
-use Rattle.writer.specs.Writes.{LowestWrong}
+use Rattle.base.specs.Lowest.{LowestWrong}
 
 -- below k the test g passes exactly where P holds
 pub record Tells (g : ℕ → Bool) (P : ℕ → Type 0) (k : ℕ) : Type 0 where
@@ -29,7 +29,7 @@ module _ (g : ℕ → Bool) (k : ℕ) where
           let t : T (not (g i)) = true-T (not (g i)) (ap not e) in
           absurd (omega (arith, seek-low (λ i. not (g i)) k 0 i (omega arith) (omega arith) t))
 
-  fails : failing < k → g failing ≡ false
+  pub fails : failing < k → g failing ≡ false
   fails l = not-true _ (T-true _ (seek-hit (λ i. not (g i)) k 0 (omega arith)))
 
   module _ {P : ℕ → Type 0} (tells : Tells g P k) where
@@ -52,3 +52,10 @@ module _ (g : ℕ → Bool) (k : ℕ) where
     wrong-none f =
         let a : failing < k → ⊥ = λ l. wrong-there l (f failing l) in
         omega arith
+
+-- there is one at most
+pub one-lowest : {P : ℕ → Type 0} {k i j : ℕ} → LowestWrong P k i → LowestWrong P k j → i ≡ j
+one-lowest {i = i} {j} f g =
+    let a : i < j → ⊥ = λ l. f .wrong (g .lower i l) in
+    let b : j < i → ⊥ = λ l. g .wrong (f .lower j l) in
+    omega arith

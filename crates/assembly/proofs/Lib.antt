@@ -8,7 +8,7 @@ pub mod ItemsFit
 pub mod FollowedIsChosen
 pub mod SlotsOfBook
 pub mod AnswerReached
-pub mod Room
+pub mod Lengths
 pub mod WaysOfAssemble
 pub mod Exactly
 pub mod Unique

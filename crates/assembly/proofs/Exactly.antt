@@ -37,7 +37,7 @@ use Rattle.assembly.specs.declared.Assembly.{Assembly}
 use Rattle.assembly.specs.Lent.{legsBytes, LegForm, inBytes, Room, AllLent, allSizes}
 use Rattle.assembly.specs.Assembles.{Left, Assembles, short, unaccepted, faulty, answered}
 use Rattle.assembly.specs.Contract.{answerOf, plannedBy, assembleBy, AssembleAs}
-use Rattle.assembly.proofs.Room.{some-short, all-long}
+use Rattle.assembly.proofs.Lengths.{some-short, all-long}
 
 -- ---- a chain has at most 8 commands and one item for each point passed
 module _ (d : Device) (r : Run) (items : List Item) (each : Each (AllowedItem d) items) where

@@ -7,7 +7,7 @@ pub mod RulesAgree
 pub mod ItemsFit
 pub mod FollowedIsChosen
 pub mod AnswerReached
-pub mod Room
+pub mod Lengths
 pub mod WaysOfAssemble
 pub mod Exactly
 pub mod Unique

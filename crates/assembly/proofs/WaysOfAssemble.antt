@@ -35,7 +35,7 @@ use Rattle.assembly.specs.ChainFollowed.{Walkable, Walked}
 use Rattle.assembly.specs.Lent.{inBytes, Room, AllLent, roomSizes, allSizes}
 use Rattle.assembly.specs.Assembles.{refusal, resultOf}
 use Rattle.assembly.specs.Contract.{answerOf, plannedBy, assembleBy, roomOf, AssembleAs}
-use Rattle.assembly.proofs.Room.{some-short, room-long}
+use Rattle.assembly.proofs.Lengths.{some-short, room-long}
 use Rattle.assembly.proofs.AnswerReached as reached
 use Rattle.assembly.proofs.AnswerReached.{Stored}
 

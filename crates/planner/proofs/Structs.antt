@@ -22,7 +22,7 @@ use Rattle.assembly.specs.declared.Assembly.{Assembly}
 use Rattle.assembly.specs.Lent.{legsBytes, inBytes, Room, AllLent, allLent, allSizes}
 use Rattle.assembly.specs.Assembles.{refusal, resultOf}
 use Rattle.assembly.specs.Contract.{plannedBy, assembleBy, roomOf, AssembleAs}
-use Rattle.assembly.proofs.Room.{some-short}
+use Rattle.assembly.proofs.Lengths.{some-short}
 use Rattle.assembly.proofs.Exactly.{Even, even-bytes, Outcome, refused, given, outcome}
 use Rattle.planner.specs.declared.Leg.{Leg}
 use Rattle.planner.specs.declared.Whole.{Whole}

@@ -2,11 +2,11 @@
 use mathlib.Core.Path.{sym, ap₂, _∙_}
 use Prim.Native.Nat.{_<_}
 use native.Mathlib.Omega.{arith}
-use Rattle.base.specs.Lists.{Each}
+use Rattle.base.specs.Lists.{Bytes}
 use Rattle.base.specs.Sizes.{LongEnough}
 use Rattle.base.proofs.Lists.{each-of}
 use Rattle.base.proofs.Sizes.{short-here, short-past}
-use Rattle.book.specs.Lent.{lent, sizes}
+use Rattle.book.specs.Lent.{Lent, lent, sizes}
 use Rattle.reader.proofs.Answers.{as-short, as-faulty, as-book}
 use Rattle.reader.proofs.Filling.{found, refused as fault-found}
 use borrow.Author.Needs.{needs}
@@ -19,26 +19,35 @@ use Rattle.reader.proofs.fill_table.Reads as fill-table-reads
 use Rattle.reader.proofs.judge.Reads as judge-reads
 use Rattle.reader.proofs.refused.Reads as refused-reads
 
--- what is lent as the book is bytes
-bytes : (c : tie.After-shared-slice-known) → Each (λ x. x < 256) (c .before .args .book .now)
-bytes c = each-of (λ x. x < 256) (c .before .args .book .now) 0 (λ i h. omega (arith, c .shared-slice-known .given i))
+-- ---- places: at entry, and where the lengths are tested
+abbrev entry : tie.After-slice-known2 → tie.After-shared-slice-known
+entry c = c .before .before
 
--- both buffers are long enough
-long : (c : tie.After-judge) → LongEnough (sizes (lent (c .before .before .before .before .before .before .args .table .now) (c .before .before .before .before .before .before .args .slots .now)))
+abbrev tested : tie.After-judge → tie.After-slice-known2
+tested c = c .before .before .before
+
+abbrev buffers : tie.After-slice-known2 → Lent
+buffers c = let a = entry c .before .args in lent (a .table .now) (a .slots .now)
+
+-- ---- what holds there
+bytes : (c : tie.After-slice-known2) → Bytes (entry c .before .args .book .now)
+bytes c = each-of (λ x. x < 256) (entry c .before .args .book .now) 0 (λ i h. omega (arith, entry c .shared-slice-known .given i))
+
+long : (c : tie.After-judge) → LongEnough (sizes (buffers (tested c)))
 long c = (c .before .before .if1 .left, (c .before .if2 .left, tt))
 
 refused-requires : tie.Need-refused-requires
 refused-requires c κs = search needs
 
 returns : tie.Need-returns
-returns c = as-short _ _ (bytes (c .before .before .before .before)) (short-here _ _ (c .before .if1 .taken)) _ (c .refused .ensures)
+returns c = as-short _ _ (bytes (c .before .before)) (short-here _ _ (c .before .if1 .taken)) _ (c .refused .ensures)
 
 refused-requires-2 : tie.Need-refused-requires-2
 refused-requires-2 c κs = search needs
 
 returns-2 : tie.Need-returns-2
 returns-2 c =
-    as-short _ _ (bytes (c .before .before .before .before .before))
+    as-short _ _ (bytes (c .before .before .before))
     (short-past _ _ (c .before .before .if1 .left) ∙ short-here _ _ (c .before .if2 .taken)) _ (c .refused2 .ensures)
 
 judge-requires : tie.Need-judge-requires
@@ -62,7 +71,7 @@ fill-slots-requires c κs = search needs
 returns-3 : tie.Need-returns-3
 returns-3 c =
     let j = c .before .before .before .before in
-    as-faulty _ _ (bytes (j .before .before .before .before .before)) (long j) _ _
+    as-faulty _ _ (bytes (tested j)) (long j) _ _
     (fault-found _ _ _ (sym (j .judge .ensures .0) ∙ c .before .before .seen .given .1)) _ (c .refused3 .ensures)
 
 same-length : tie.Need-same-length
@@ -75,12 +84,11 @@ returns-4 : tie.Need-returns-4
 returns-4 c =
     let seen = c .before .before .before .before .before .before .before .before .before .seen2 .given in
     let j = c .before .before .before .before .before .before .before .before .before .before .before in
-    let held = bytes (j .before .before .before .before .before) in
-    let f = found _ (seen .0 .0) held (sym (j .judge .ensures .0) ∙ seen .1) in
+    let f = found _ (seen .0 .0) (bytes (tested j)) (sym (j .judge .ensures .0) ∙ seen .1) in
     let t = c .before .before .before .before .before .before .fill-table .ensures in
     let d = c .before .before .fill-slots .ensures in
     let first = t .begins (f .book) (f .allowed) (f .bytes) in
-    as-book _ _ held (long j) (f .book) (f .parsed) _ _ (f .result)
+    as-book _ _ (bytes (tested j)) (long j) (f .book) (f .parsed) _ _ (f .result)
     (ap₂ lent (t .entries (f .book) (f .allowed) (f .bytes)) (d .items (f .book) (f .allowed) (f .bytes) first))
 
 pub read-spec : {M : Type 1} → statement M

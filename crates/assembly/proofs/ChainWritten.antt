@@ -7,25 +7,17 @@ use lib.ListN.{length, getD, length-append}
 use lib.Seq.{sets, length-sets}
 use Rattle.octets.specs.Le.{bytesLe}
 use Rattle.octets.proofs.Le.{byte-one}
-use Rattle.octets.proofs.Put.{sets-append}
+use Rattle.octets.proofs.Put.{sets-append, first, then}
 use Rattle.assembly.specs.Items.{Items, kOf}
 use Rattle.assembly.specs.ChainFollowed.{followed, Steps, planIn, legBytes, legsIn, walk, Walkable, Walked}
 
 -- ---- a leg in three stores
 pub leg-stored : (l : List ℕ) (at a u v : ℕ) {d e f : List ℕ} → a < 256 → u < 256 → v < 256 → d ≡ sets l at (bytesLe 1 a)
     → e ≡ sets d (at + 1) (bytesLe 1 u) → f ≡ sets e (at + 2) (bytesLe 1 v) → f ≡ sets l at (legBytes a u v)
-leg-stored l at a u v {d} {e} {f} ha hu hv p q r =
-    r ∙ ap (sets e (at + 2)) (byte-one v hv)
-    ∙ ap (λ (x : List ℕ). sets x (at + 2) (v ∷ [])) two
-    ∙ sets-append l at (at + 2) (a ∷ u ∷ []) (v ∷ []) refl
-  where
-    one : d ≡ sets l at (a ∷ [])
-    one = p ∙ ap (sets l at) (byte-one a ha)
-
-    two : e ≡ sets l at (a ∷ u ∷ [])
-    two =
-        q ∙ ap (sets d (at + 1)) (byte-one u hu) ∙ ap (λ (x : List ℕ). sets x (at + 1) (u ∷ [])) one
-        ∙ sets-append l at (at + 1) (a ∷ []) (u ∷ []) refl
+leg-stored l at a u v {d} {e} ha hu hv p q r =
+    then (then (first l at (a ∷ []) (p ∙ ap (sets l at) (byte-one a ha)))
+    (at + 1) (u ∷ []) refl (q ∙ ap (sets d (at + 1)) (byte-one u hu)))
+    (at + 2) (v ∷ []) refl (r ∙ ap (sets e (at + 2)) (byte-one v hv)) .is
 
 -- ---- the chain
 -- the item at point j, and its number of forward commands

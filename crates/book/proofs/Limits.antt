@@ -3,6 +3,7 @@ use mathlib.Core.Path.{_≡_, refl, sym, ap, _∙_}
 use mathlib.Core.Bool.{Bool, true, false, not, false≢true}
 use Prim.Native.Nat.{ℕ, _≤_}
 use native.Mathlib.Omega.{arith}
+use borrow.Author.Tests.{not-false}
 use lib.ListN.{length}
 use Rattle.base.specs.Tests.{pick}
 use Rattle.base.specs.Compare.{less, atMost, same}
@@ -20,10 +21,6 @@ pub past : (t rest : Bool) → pick t false rest ≡ true → (t ≡ false) × (
 unfolding pick
 past true rest e = absurd (false≢true e)
 past false rest e = (refl, e)
-
-pub not-off : (t : Bool) → not t ≡ false → t ≡ true
-not-off true e = refl
-not-off false e = absurd (false≢true (sym e))
 
 -- ---- n and m
 module _ (n m : ℕ) where
@@ -78,7 +75,7 @@ module _ (n m : ℕ) (x : Move) where
         known-state = most-off n (x .state) a;
         known-command = most-off m (x .command) b;
         some = omega arith;
-        states = clear-on n (x .mask) (not-off _ d);
+        states = clear-on n (x .mask) (not-false _ d);
       }
 
 -- ---- the numbers of an item's commands
@@ -121,8 +118,8 @@ module _ (d : Device) (x : Item) where
         some = some;
         most = most;
         reverse-most = reverse-most;
-        forward-commands = all-on (d .m) (x .forward) (not-off _ f);
-        reverse-commands = all-on (d .m) (x .reverse) (not-off _ r);
-        phi-states = clear-on (d .n) (x .phi) (not-off _ p);
-        psi-states = clear-on (d .n) (x .psi) (not-off _ q);
+        forward-commands = all-on (d .m) (x .forward) (not-false _ f);
+        reverse-commands = all-on (d .m) (x .reverse) (not-false _ r);
+        phi-states = clear-on (d .n) (x .phi) (not-false _ p);
+        psi-states = clear-on (d .n) (x .psi) (not-false _ q);
       }

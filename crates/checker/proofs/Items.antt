@@ -32,32 +32,32 @@ reach-append d w (x ∷ cs) c = reach-append d (after d x w) cs c
 abbrev pub passes : Device → Item → ℕ → Bool
 passes d x S = imp (member (x .psi) S) (startOk d x S)
 
--- ---- what is read at `at` is p
-module _ (n m : ℕ) (table s : List ℕ) (at : ℕ) (p : Place) where
+-- ---- what is read of an item is p
+module _ (n m : ℕ) (table s : List ℕ) (p : Place) where
   -- the device in the table
   abbrev d : Device
   d = tabled n m table
 
   -- the set after the first j forward commands from a start
   abbrev pub Reached : ℕ → StateSet → ℕ → Type 0
-  Reached S set j = (x : Item) → Fields s at p x → set ≡ setOf (reach d (2 ^ S) (take j (x .forward)))
+  Reached S set j = (x : Item) → Fields s p x → set ≡ setOf (reach d (2 ^ S) (take j (x .forward)))
 
   -- the ends in phi from a start
   abbrev pub Ended : ℕ → ℕ → Type 0
-  Ended S w = (x : Item) → Fields s at p x → w ≡ ends d (x .forward) (x .phi) S
+  Ended S w = (x : Item) → Fields s p x → w ≡ ends d (x .forward) (x .phi) S
 
   -- the starts below S pass
   abbrev pub Passed : ℕ → Type 0
-  Passed S = (x : Item) → Fields s at p x → all (passes d x) S ≡ true
+  Passed S = (x : Item) → Fields s p x → all (passes d x) S ≡ true
 
   -- ---- forward commands
 
   -- the part of the bytes that holds them
   abbrev forward : List ℕ
-  forward = take (at + 6 + p .k - (at + 6)) (drop (at + 6) s)
+  forward = take (p .forward + p .k - p .forward) (drop (p .forward) s)
 
-  forward-is : (x : Item) → Fields s at p x → forward ≡ x .forward
-  forward-is x f = let e : at + 6 + p .k - (at + 6) ≡ p .k = omega arith in rw e (f .forward-is)
+  forward-is : (x : Item) → Fields s p x → forward ≡ x .forward
+  forward-is x f = let e : p .forward + p .k - p .forward ≡ p .k = omega arith in rw e (f .forward-is)
 
   pub reach-start : (S : ℕ) (none set : StateSet) → S < 64 → none ≡ setOf 0 → set ≡ setOf (added (none .mask) S) → Reached S set 0
   unfolding reach added pick
@@ -97,7 +97,7 @@ module _ (n m : ℕ) (table s : List ℕ) (at : ℕ) (p : Place) where
   start-out S e h = λ x f. start-more x S (e x f) (rw (← f .psi-is, h))
 
   module _ (S w : ℕ) (all-ends : Ended S w) where
-    passing : Passed S → ((x : Item) → Fields s at p x → startOk d x S ≡ true) → Passed (S + 1)
+    passing : Passed S → ((x : Item) → Fields s p x → startOk d x S ≡ true) → Passed (S + 1)
     passing e h = λ x f. start-more x S (e x f) (ap (imp (member (x .psi) S)) (h x f) ∙ imp-true (member (x .psi) S))
 
     pub start-none : Passed S → eqb w 0 ≡ true → Passed (S + 1)
@@ -106,19 +106,19 @@ module _ (n m : ℕ) (table s : List ℕ) (at : ℕ) (p : Place) where
 
     -- the part of the bytes that is lent to `runs_back`
     abbrev reverse : List ℕ
-    reverse = take (at + 6 + p .k + p .r - (at + 6 + p .k)) (drop (at + 6 + p .k) s)
+    reverse = take (p .reverse + p .r - p .reverse) (drop (p .reverse) s)
 
-    reverse-is : (x : Item) → Fields s at p x → reverse ≡ x .reverse
-    reverse-is x f = let e : at + 6 + p .k + p .r - (at + 6 + p .k) ≡ p .r = omega arith in rw e (f .reverse-is)
+    reverse-is : (x : Item) → Fields s p x → reverse ≡ x .reverse
+    reverse-is x f = let e : p .reverse + p .r - p .reverse ≡ p .r = omega arith in rw e (f .reverse-is)
 
     pub start-back : Passed S → runsBack d w reverse S ≡ true → Passed (S + 1)
     unfolding startOk
     start-back e h = passing e (λ x f. rw (← all-ends x f, ← reverse-is x f, h) (imp-true (not (eqb w 0))))
 
-    pub start-fails : S < n → member (p .psi) S ≡ true → eqb w 0 ≡ false → runsBack d w reverse S ≡ false → (x : Item) → Fields s at p x → accepts d x ≡ false
+    pub start-fails : S < n → member (p .psi) S ≡ true → eqb w 0 ≡ false → runsBack d w reverse S ≡ false → (x : Item) → Fields s p x → accepts d x ≡ false
     unfolding accepts startOk imp
     start-fails l h z g x f = all-fails (passes d x) n S l (rw (← f .psi-is, h, ← all-ends x f, z, ← reverse-is x f, g))
 
-  pub starts-done : (S : ℕ) → S ≡ n → Passed S → (x : Item) → Fields s at p x → accepts d x ≡ true
+  pub starts-done : (S : ℕ) → S ≡ n → Passed S → (x : Item) → Fields s p x → accepts d x ≡ true
   unfolding accepts
   starts-done S e h x f = ap (λ (k : ℕ). all (passes d x) k) (sym e) ∙ h x f

@@ -51,16 +51,17 @@ fn first_wrong(book: &[u8], table: &[u64], n: u64, m: u64) -> Judgement
     let mut found = Judgement::AllAccepted;
     'items: while at < book.len() {
         let item = items::item_at(book, at);
+        let forward = item.forward;
+        let reverse = item.reverse;
         for start in 0..n {
             if StateSet::of(item.psi).has(start) {
                 let mut set = StateSet::of(0).add(start);
                 for j in 0..item.k {
-                    let command = octets::byte_at(&book[at + 6..at + 6 + item.k], j);
+                    let command = octets::byte_at(&book[forward..forward + item.k], j);
                     set = set.after(table, n, m, command);
                 }
                 set = set.within(item.phi);
                 if !set.is_empty() {
-                    let reverse = at + 6 + item.k;
                     if !runs_back(set, table, n, m, &book[reverse..reverse + item.r], start) {
                         found = Judgement::Wrong(at as u64, Verdict::NoReversePlan);
                         break 'items;

@@ -100,7 +100,7 @@ module _ (s : List ℕ) (at k r : ℕ) (ek : k ≡ getD s (at + 4) 0) (er : r �
 
     -- what `item_at` and `parts_at` make of the bytes
     fields : (phi psi : ℕ) → phi ≡ leAt 8 s (at + 6 + k + r) → psi ≡ leAt 8 s (at + 6 + k + r + 8)
-        → Fields s at (record { k = k; r = r; phi = phi; psi = psi; next = at + 6 + k + r + 16 }) x
+        → Fields s (record { k = k; r = r; forward = at + 6; reverse = at + 6 + k; phi = phi; psi = psi; next = at + 6 + k + r + 16 }) x
     fields phi psi ep eq =
         record {
           k-is = hk;
@@ -109,7 +109,8 @@ module _ (s : List ℕ) (at k r : ℕ) (ek : k ≡ getD s (at + 4) 0) (er : r �
           psi-is = eq ∙ (ap (λ (l : List ℕ). le (take 8 l)) (psi-at s at x t (stands h) (at + 6 + k + r) masks) ∙ first-eight (x .psi) t (small (x .psi) (allowed h .psi-states)));
           forward-is = ap (take k) forward ∙ take-at (x .forward) (x .reverse ++ tail s at x t (stands h)) k (sym hk);
           reverse-is = ap (take r) reverse ∙ take-at (x .reverse) (tail s at x t (stands h)) r (sym hr);
-          within = omega (arith, inside s at x t (stands h), hk, hr);
+          forward-in = omega (arith, inside s at x t (stands h), hk, hr);
+          reverse-in = omega (arith, inside s at x t (stands h), hk, hr);
         }
 
     parts : PartsOf s (record { k = k; r = r; forward = at + 6; reverse = at + 6 + k; masks = at + 6 + k + r; next = at + 6 + k + r + 16 }) x
@@ -126,7 +127,7 @@ module _ (s : List ℕ) (at k r : ℕ) (ek : k ≡ getD s (at + 4) 0) (er : r �
         }
 
   pub read-item : (phi psi : ℕ) → phi ≡ leAt 8 s (at + 6 + k + r) → psi ≡ leAt 8 s (at + 6 + k + r + 8)
-      → ItemAt s at (record { k = k; r = r; phi = phi; psi = psi; next = at + 6 + k + r + 16 })
+      → ItemAt s at (record { k = k; r = r; forward = at + 6; reverse = at + 6 + k; phi = phi; psi = psi; next = at + 6 + k + r + 16 })
   read-item phi psi ep eq = record { past = λ l. omega arith; fields = λ h. fields h phi psi ep eq; next = next }
 
   pub read-parts : PartsAt s at (record { k = k; r = r; forward = at + 6; reverse = at + 6 + k; masks = at + 6 + k + r; next = at + 6 + k + r + 16 })

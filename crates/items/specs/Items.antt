@@ -22,20 +22,21 @@ pub record ItemStands (s : List ℕ) (b : Book) (i at : ℕ) : Type 0 where
   pub known : i < length (b .items)
   pub begins : Begins s b i at
 
--- what is read where item x stands, which begins at `at`
-pub record Fields (s : List ℕ) (at : ℕ) (p : Place) (x : Item) : Type 0 where
+-- what is read where item x stands
+pub record Fields (s : List ℕ) (p : Place) (x : Item) : Type 0 where
   pub k-is : p .k ≡ length (x .forward)
   pub r-is : p .r ≡ length (x .reverse)
   pub phi-is : p .phi ≡ x .phi
   pub psi-is : p .psi ≡ x .psi
-  pub forward-is : take (p .k) (drop (at + 6) s) ≡ x .forward
-  pub reverse-is : take (p .r) (drop (at + 6 + p .k) s) ≡ x .reverse
-  pub within : at + 22 + p .k + p .r ≤ length s
+  pub forward-is : take (p .k) (drop (p .forward) s) ≡ x .forward
+  pub reverse-is : take (p .r) (drop (p .reverse) s) ≡ x .reverse
+  pub forward-in : p .forward + p .k ≤ length s
+  pub reverse-in : p .reverse + p .r ≤ length s
 
 -- the contract of `item_at`
 pub record ItemAt (s : List ℕ) (at : ℕ) (p : Place) : Type 0 where
   pub past : at < length s → at < p .next
-  pub fields : {b : Book} {i : ℕ} → ItemStands s b i at → Fields s at p (item (b .items) i)
+  pub fields : {b : Book} {i : ℕ} → ItemStands s b i at → Fields s p (item (b .items) i)
   pub next : {b : Book} {i : ℕ} → ItemStands s b i at → Begins s b (i + 1) (p .next)
 
 -- where the parts of item x stand

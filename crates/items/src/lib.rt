@@ -2,11 +2,12 @@
 // of an item's record for reading it. Every call takes any bytes; its promise speaks of every allowed book whose bytes these are.
 ghost use Rattle.items.specs.Items.{ItemAt, PartsAt, FirstItem};
 
-// The item whose record begins at a place: its counts and masks. Its forward commands begin 6 bytes on, its reverse commands k later;
-// `next` is the place past it.
+// The item whose record begins at a place: its counts and masks, where its commands stand each way, and the place past it.
 pub struct Place {
     pub k: usize,
     pub r: usize,
+    pub forward: usize,
+    pub reverse: usize,
     pub phi: u64,
     pub psi: u64,
     pub next: usize,
@@ -19,6 +20,8 @@ pub fn item_at(book: &[u8], at: usize) -> Place
         return Place {
             k: 0,
             r: 0,
+            forward: 0,
+            reverse: 0,
             phi: 0,
             psi: 0,
             next: 0,
@@ -26,19 +29,23 @@ pub fn item_at(book: &[u8], at: usize) -> Place
     }
     let k = octets::byte_at(book, at + 4) as usize;
     let r = octets::byte_at(book, at + 5) as usize;
-    let masks = at + 6 + k + r;
+    let forward = at + 6;
+    let reverse = forward + k;
+    let masks = reverse + r;
     let phi = octets::u64_at(book, masks);
     let psi = octets::u64_at(book, masks + 8);
     Place {
         k: k,
         r: r,
+        forward: forward,
+        reverse: reverse,
         phi: phi,
         psi: psi,
         next: masks + 16,
     }
 }
 
-// Where its parts stand, for who copies them: its commands each way, and its two masks.
+// The same with the place of its two masks, for who copies its bytes.
 pub struct Parts {
     pub k: usize,
     pub r: usize,
@@ -66,13 +73,14 @@ pub fn parts_at(book: &[u8], at: usize) -> Parts
     let forward = at + 6;
     let reverse = forward + k;
     let masks = reverse + r;
+    let next = masks + 16;
     Parts {
         k: k,
         r: r,
         forward: forward,
         reverse: reverse,
         masks: masks,
-        next: masks + 16,
+        next: next,
     }
 }
 

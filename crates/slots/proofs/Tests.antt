@@ -1,18 +1,19 @@
--- The ways through the tests of a slot. Assumes nothing.
-use mathlib.Core.Path.{_≡_, sym, ap, ap₂, _∙_}
+-- The ways through the tests of a slot: k and r are judged first, then the fields, then the unused command bytes. Assumes nothing.
+use mathlib.Core.Path.{_≡_, refl, sym, ap, ap₂, _∙_}
 use mathlib.Core.Bool.{Bool, true, false, not}
 use mathlib.Core.List.{List}
 use Prim.Native.Nat.{ℕ, _+_, _-_, _*_, _≤_, _<_}
 use native.Mathlib.Omega.{arith}
 use borrow.Author.Tests.{not-false}
 use lib.ListN.{length, getD, take, drop}
-use Rattle.base.proofs.Picks.{tests}
+use Rattle.base.proofs.Picks.{less-yes, less-no}
 use Rattle.reversal.specs.Reversal.{Item}
 use Rattle.octets.specs.Parts.{leAt, piece}
 use Rattle.octets.proofs.Put.{piece-take}
 use Rattle.book.specs.Limits.{countsFine, allBelow, fieldsFine, itemWith}
 use Rattle.book.specs.Slots.{itemAt, unused, slotFine}
 use Rattle.book.proofs.Limits.{counts-on}
+use Rattle.limits.proofs.Below.{refused, passed}
 use Rattle.slots.proofs.Laws.{k-is, r-is}
 
 module _ (n m : ℕ) (s : List ℕ) (a : ℕ) where
@@ -24,7 +25,7 @@ module _ (n m : ℕ) (s : List ℕ) (a : ℕ) where
 
   pub too-short : length s < q + 34 → false ≡ slotFine n m s a
   unfolding slotFine
-  too-short h = search tests
+  too-short h = less-yes _ _ _ (length s) (q + 34) h refl
 
   -- k and r are read, and judged by b
   module _ (room : q + 34 ≤ length s) (k r : ℕ) (ek : k ≡ getD s q 0) (er : r ≡ getD s (q + 1) 0) (b : Bool) (eb : b ≡ countsFine k r) where
@@ -33,12 +34,10 @@ module _ (n m : ℕ) (s : List ℕ) (a : ℕ) where
 
     pub counts-wrong : not b ≡ true → false ≡ slotFine n m s a
     unfolding slotFine
-    counts-wrong h =
-        let t : not (countsFine (length (x .forward)) (length (x .reverse))) ≡ true = ap not (sym counts) ∙ h in
-        search tests
+    counts-wrong h = less-no _ _ _ (length s) (q + 34) room (refused _ b _ counts h)
 
     module _ (ok : not b ≡ false) where
-      pub counts-low : (1 ≤ k) × (k ≤ 8) × (r ≤ 8)
+      counts-low : (1 ≤ k) × (k ≤ 8) × (r ≤ 8)
       counts-low = counts-on k r (sym eb ∙ not-false _ ok)
 
       -- a part that is lent is a piece
@@ -66,10 +65,7 @@ module _ (n m : ℕ) (s : List ℕ) (a : ℕ) where
 
         pub fields-wrong : not f ≡ true → false ≡ slotFine n m s a
         unfolding slotFine
-        fields-wrong h =
-            let t : not (countsFine (length (x .forward)) (length (x .reverse))) ≡ false = ap not (sym counts) ∙ ok in
-            let u : not (fieldsFine n m x) ≡ true = ap not (sym fields) ∙ h in
-            search tests
+        fields-wrong h = less-no _ _ _ (length s) (q + 34) room (passed _ b _ _ counts ok (refused _ f _ fields h))
 
         -- the unused forward bytes are judged by g
         module _ (fine : not f ≡ false) (g : Bool) (eg : g ≡ allBelow 1 (take (q + 10 - (q + 2 + k)) (drop (q + 2 + k) s))) where
@@ -83,20 +79,16 @@ module _ (n m : ℕ) (s : List ℕ) (a : ℕ) where
           pub unused-wrong : not g ≡ true → false ≡ slotFine n m s a
           unfolding slotFine
           unused-wrong h =
-              let t : not (countsFine (length (x .forward)) (length (x .reverse))) ≡ false = ap not (sym counts) ∙ ok in
-              let u : not (fieldsFine n m x) ≡ false = ap not (sym fields) ∙ fine in
-              let v : not (allBelow 1 (unused (length (x .forward)) s (q + 2))) ≡ true = ap not (sym rest) ∙ h in
-              search tests
+              less-no _ _ _ (length s) (q + 34) room (passed _ b _ _ counts ok (passed _ f _ _ fields fine (refused _ g _ rest h)))
 
           pub unused-decides : not g ≡ false → (y : Bool) → y ≡ allBelow 1 (take (q + 18 - (q + 10 + r)) (drop (q + 10 + r) s)) → y ≡ slotFine n m s a
           unfolding slotFine
           unused-decides h y ey =
               let (some, most, reverse-most) = counts-low in
-              let t : not (countsFine (length (x .forward)) (length (x .reverse))) ≡ false = ap not (sym counts) ∙ ok in
-              let u : not (fieldsFine n m x) ≡ false = ap not (sym fields) ∙ fine in
-              let v : not (allBelow 1 (unused (length (x .forward)) s (q + 2))) ≡ false = ap not (sym rest) ∙ h in
-              let w : y ≡ allBelow 1 (unused (length (x .reverse)) s (q + 10))
-              = ey
+              less-no _ _ _ (length s) (q + 34) room
+              (passed _ b _ _ counts ok
+              (passed _ f _ _ fields fine
+              (passed _ g _ _ rest h
+              (ey
               ∙ ap (allBelow 1) (lent (8 - r) (q + 10 + r) (q + 18) (omega arith) (omega arith))
-              ∙ ap (λ (j : ℕ). allBelow 1 (unused j s (q + 10))) (r-is s a r er) in
-              search tests
+              ∙ ap (λ (j : ℕ). allBelow 1 (unused j s (q + 10))) (r-is s a r er)))))

@@ -104,7 +104,8 @@ fn put_head(k: u64, r: u64, d: &mut [u8], at: usize)
 
 // The commands and masks of the item in slot a, with counts k and r, from `at` on.
 fn put_tail(s: &[u8], a: u8, k: usize, r: usize, d: &mut [u8], at: usize)
-    requires { ⌜ (k ≡ length (itemAt (now s) a .forward)) × (r ≡ length (itemAt (now s) a .reverse)) × (k ≤ 8) × (r ≤ 8) × (at + 32 < 2 ^ 64) ⌝ }
+    requires { ⌜ (k ≡ length (itemAt (now s) a .forward)) × (r ≡ length (itemAt (now s) a .reverse))
+        × (k ≤ 8) × (r ≤ 8) × (at + 32 < 2 ^ 64) ⌝ }
     ensures { λ _. ⌜ now (d .exit) ≡ sets (now (d .entry)) at (itemTail (itemAt (now (s .entry)) a)) ⌝ }
 {
     slots::put_forward(s, a, k, d, at);

@@ -34,16 +34,16 @@ use Rattle.states.proofs.StateSet.of.Reads as of-reads
 use Rattle.states.proofs.StateSet.within.Reads as within-reads
 
 abbrev Inv-loop2 : tie.InvT-loop2
-Inv-loop2 book table n m at found item start set₀ j₀ j-end set j = (j ≤ j-end) × Reached n m table book at item start set j
+Inv-loop2 book table n m at found item forward reverse start set₀ j₀ j-end set j = (j ≤ j-end) × Reached n m table book item start set j
 
 abbrev μ-loop2 : tie.MeasureT-loop2
-μ-loop2 book table n m at found item start set₀ j₀ j-end set j = j-end - j
+μ-loop2 book table n m at found item forward reverse start set₀ j₀ j-end set j = j-end - j
 
 abbrev Inv-loop : tie.InvT-loop
-Inv-loop book table n m at found₀ item start₀ found start = (found ≡ AllAccepted) × (start ≤ n) × Passed n m table book at item start
+Inv-loop book table n m at found₀ item forward reverse start₀ found start = (found ≡ AllAccepted) × (start ≤ n) × Passed n m table book item start
 
 abbrev μ-loop : tie.MeasureT-loop
-μ-loop book table n m at found₀ item start₀ found start = n - start
+μ-loop book table n m at found₀ item forward reverse start₀ found start = n - start
 
 abbrev Inv-items : tie.InvT-items
 Inv-items book table n m at₀ found₀ at found =
@@ -70,7 +70,7 @@ module _ (c : tie.After-item-at Inv-loop2 μ-loop2 Inv-loop μ-loop Inv-items μ
   atOf = c .before .before .items .at
 
   abbrev EndedFrom : ℕ → ℕ → Type 0
-  EndedFrom S w = Ended nOf mOf tableOf bookOf atOf (c .item-at .result) S w
+  EndedFrom S w = Ended nOf mOf tableOf bookOf (c .item-at .result) S w
 
   -- where the walk is, in every book whose bytes these are
   abbrev walk : (b : Book) → AllowedBook b → bytesOf b ≡ bookOf → Walking (tabled nOf mOf tableOf) bookOf b atOf
@@ -79,14 +79,16 @@ module _ (c : tie.After-item-at Inv-loop2 μ-loop2 Inv-loop μ-loop Inv-items μ
   there : (b : Book) (a : AllowedBook b) (e : bytesOf b ≡ bookOf) → ItemStands bookOf b (walk b a e .number) atOf
   there b a e = stands (tabled nOf mOf tableOf) bookOf b a e atOf (walk b a e) (c .before .items-test .taken)
 
-  is : (b : Book) (a : AllowedBook b) (e : bytesOf b ≡ bookOf) → Fields bookOf atOf (c .item-at .result) (item (b .items) (walk b a e .number))
+  is : (b : Book) (a : AllowedBook b) (e : bytesOf b ≡ bookOf) → Fields bookOf (c .item-at .result) (item (b .items) (walk b a e .number))
   is b a e = c .item-at .ensures .fields (there b a e)
 
-  -- and its record lies inside the bytes
-  inside : (atOf + 22 + c .item-at .result .k + c .item-at .result .r ≤ length bookOf) × (length bookOf < 2 ^ 64)
+  -- and its commands lie inside the bytes
+  inside : (c .item-at .result .forward + c .item-at .result .k ≤ length bookOf) × (c .item-at .result .reverse + c .item-at .result .r ≤ length bookOf)
+      × (length bookOf < 2 ^ 64)
   inside =
       let start = c .before .before .before .before .before .before in
-      let w = start .pre .2 in (is (w .0) (w .1) (w .2) .within, start .good .0 .0)
+      let w = start .pre .2 in
+      let f = is (w .0) (w .1) (w .2) in (f .forward-in, f .reverse-in, start .good .0 .0)
 
 -- ---- the item at the places where a start is judged
 abbrev at-within : tie.After-within Inv-loop2 μ-loop2 Inv-loop μ-loop Inv-items μ-items → tie.After-item-at Inv-loop2 μ-loop2 Inv-loop μ-loop Inv-items μ-items
@@ -105,7 +107,7 @@ ended c =
     let i = at-within c in
     let v = c .before .before .loop2 in
     let S = c .before .before .before .before .before .before .before .before .before .loop .start in
-    reach-all (nOf i) (mOf i) (tableOf i) (bookOf i) (atOf i) (i .item-at .result) S (v .set) _ (v .j) (omega arith) (v .inv .1) (c .within .ensures)
+    reach-all (nOf i) (mOf i) (tableOf i) (bookOf i) (i .item-at .result) S (v .set) _ (v .j) (omega arith) (v .inv .1) (c .within .ensures)
 
 first-item-requires :
     tie.Need-first-item-requires Inv-loop2 μ-loop2 Inv-loop μ-loop Inv-items μ-items
@@ -138,17 +140,11 @@ loop2-holds c =
     let S = c .before .before .before .before .before .before .loop .start in
     let i = c .before .before .before .before .before .before .before in (
       omega arith,
-      reach-start (nOf i) (mOf i) (tableOf i) (bookOf i) (atOf i) (i .item-at .result) S _ _ (omega arith) (c .before .of2 .ensures) (c .add .ensures),
+      reach-start (nOf i) (mOf i) (tableOf i) (bookOf i) (i .item-at .result) S _ _ (omega arith) (c .before .of2 .ensures) (c .add .ensures),
     )
 
 add-byte-at : tie.Need-add-byte-at Inv-loop2 μ-loop2 Inv-loop μ-loop Inv-items μ-items
-add-byte-at c = omega (arith, inside (c .before .before .before .before .before .before .before .before .before))
-
-add-byte-at-2 : tie.Need-add-byte-at-2 Inv-loop2 μ-loop2 Inv-loop μ-loop Inv-items μ-items
-add-byte-at-2 c = omega (arith, inside (c .before .before .before .before .before .before .before .before .before))
-
-add-byte-at-3 : tie.Need-add-byte-at-3 Inv-loop2 μ-loop2 Inv-loop μ-loop Inv-items μ-items
-add-byte-at-3 c = omega (arith, inside (c .before .before .before .before .before .before .before .before .before .before))
+add-byte-at c = omega (arith, inside (c .before .before .before .before .before .before .before .before .before .before))
 
 sub-byte-at : tie.Need-sub-byte-at Inv-loop2 μ-loop2 Inv-loop μ-loop Inv-items μ-items
 sub-byte-at c = omega (arith, inside (c .before .before .before .before .before .before .before .before .before .before))
@@ -179,7 +175,7 @@ loop2-again c =
     let i = l .before in
     let pre = i .before .before .before .before .before .before .pre in (
       omega arith,
-      reach-next (nOf i) (mOf i) (tableOf i) (bookOf i) (atOf i) (i .item-at .result) (l .loop .start) (v .set) _ (v .j) _ (pre .0) (pre .1) (t .loop2-test .taken) (v .inv .1)
+      reach-next (nOf i) (mOf i) (tableOf i) (bookOf i) (i .item-at .result) (l .loop .start) (v .set) _ (v .j) _ (pre .0) (pre .1) (t .loop2-test .taken) (v .inv .1)
           (c .before .byte-at .ensures .0) (c .after .ensures),
     )
 
@@ -189,30 +185,24 @@ within-requires c κs = search needs
 is-empty-requires : tie.Need-is-empty-requires Inv-loop2 μ-loop2 Inv-loop μ-loop Inv-items μ-items
 is-empty-requires c κs = search needs
 
-add-reverse : tie.Need-add-reverse Inv-loop2 μ-loop2 Inv-loop μ-loop Inv-items μ-items
-add-reverse c = omega (arith, inside (at-ends c))
-
-add-reverse-2 : tie.Need-add-reverse-2 Inv-loop2 μ-loop2 Inv-loop μ-loop Inv-items μ-items
-add-reverse-2 c = omega (arith, inside (at-ends (c .before)))
-
 add-runs-back : tie.Need-add-runs-back Inv-loop2 μ-loop2 Inv-loop μ-loop Inv-items μ-items
-add-runs-back c = omega (arith, inside (at-ends (c .before .before)))
+add-runs-back c = omega (arith, inside (at-ends (c .before)))
 
 sub-runs-back : tie.Need-sub-runs-back Inv-loop2 μ-loop2 Inv-loop μ-loop Inv-items μ-items
-sub-runs-back c = omega (arith, inside (at-ends (c .before .before)))
+sub-runs-back c = omega (arith, inside (at-ends (c .before)))
 
 part-runs-back-start :
     tie.Need-part-runs-back-start Inv-loop2 μ-loop2 Inv-loop μ-loop Inv-items μ-items
-part-runs-back-start c = omega (arith, inside (at-ends (c .before .before)))
+part-runs-back-start c = omega (arith, inside (at-ends (c .before)))
 
 part-runs-back-end :
     tie.Need-part-runs-back-end Inv-loop2 μ-loop2 Inv-loop μ-loop Inv-items μ-items
-part-runs-back-end c = omega (arith, inside (at-ends (c .before .before)))
+part-runs-back-end c = omega (arith, inside (at-ends (c .before)))
 
 runs-back-requires :
     tie.Need-runs-back-requires Inv-loop2 μ-loop2 Inv-loop μ-loop Inv-items μ-items
 runs-back-requires c κs =
-    let w = c .before .before .before .before .before in
+    let w = c .before .before .before .before in
     let pre = at-within w .before .before .before .before .before .before .pre in
     let l = w .before .before .before .before .before .before .before .before .loop-test .taken in (pre .0, pre .1, omega arith)
 
@@ -230,14 +220,14 @@ loop-again c =
       c .before .before .before .before .loop .inv .0,
       omega arith,
       ⊎-elim
-          (λ w. start-back (nOf i) (mOf i) (tableOf i) (bookOf i) (atOf i) (i .item-at .result) S (w .5 .result .mask)
-          (reach-all (nOf i) (mOf i) (tableOf i) (bookOf i) (atOf i) (i .item-at .result) S (w .3 .set) _ (w .3 .j) (omega arith) (w .3 .inv .1) (w .5 .ensures))
-          passed (sym (w .11 .ensures) ∙ not-false _ (w .12 .left)))
+          (λ w. start-back (nOf i) (mOf i) (tableOf i) (bookOf i) (i .item-at .result) S (w .5 .result .mask)
+          (reach-all (nOf i) (mOf i) (tableOf i) (bookOf i) (i .item-at .result) S (w .3 .set) _ (w .3 .j) (omega arith) (w .3 .inv .1) (w .5 .ensures))
+          passed (sym (w .10 .ensures) ∙ not-false _ (w .11 .left)))
           (⊎-elim
-          (λ w. start-none (nOf i) (mOf i) (tableOf i) (bookOf i) (atOf i) (i .item-at .result) S (w .5 .result .mask)
-          (reach-all (nOf i) (mOf i) (tableOf i) (bookOf i) (atOf i) (i .item-at .result) S (w .3 .set) _ (w .3 .j) (omega arith) (w .3 .inv .1) (w .5 .ensures))
+          (λ w. start-none (nOf i) (mOf i) (tableOf i) (bookOf i) (i .item-at .result) S (w .5 .result .mask)
+          (reach-all (nOf i) (mOf i) (tableOf i) (bookOf i) (i .item-at .result) S (w .3 .set) _ (w .3 .j) (omega arith) (w .3 .inv .1) (w .5 .ensures))
           passed (sym (w .6 .ensures) ∙ not-false _ (w .7 .left)))
-          (λ w. start-out (nOf i) (mOf i) (tableOf i) (bookOf i) (atOf i) (i .item-at .result) S passed (sym (has-is (c .before)) ∙ w .left)))
+          (λ w. start-out (nOf i) (mOf i) (tableOf i) (bookOf i) (i .item-at .result) S passed (sym (has-is (c .before)) ∙ w .left)))
           (c .if1 .came),
     )
 
@@ -252,7 +242,7 @@ items-again c =
       l .inv .0,
       λ b a e.
           at-next _ _ b a e _ (walk i b a e) t _ (i .item-at .ensures .next (there i b a e))
-          (starts-done (nOf i) (mOf i) (tableOf i) (bookOf i) (atOf i) (i .item-at .result) (l .start) (omega arith) (l .inv .2) _ (is i b a e)),
+          (starts-done (nOf i) (mOf i) (tableOf i) (bookOf i) (i .item-at .result) (l .start) (omega arith) (l .inv .2) _ (is i b a e)),
     )
 
 returns : tie.Need-returns Inv-loop2 μ-loop2 Inv-loop μ-loop Inv-items μ-items
@@ -261,13 +251,13 @@ returns c = λ b a e q. c .before .items .inv .0 ∙ none-wrong _ _ b a e _ (c .
 returns-2 : tie.Need-returns-2 Inv-loop2 μ-loop2 Inv-loop μ-loop Inv-items μ-items
 returns-2 c =
     λ b a e q.
-    let t = c .before .before .before .before .before in
+    let t = c .before .before .before .before in
     let w = t .before .before in
     let h = w .before .before .before .before .before .before in
     let l = h .before .before in
     let i = at-within w in
     found _ _ b a e _ (walk i b a e) q (i .before .items-test .taken)
-    (start-fails (nOf i) (mOf i) (tableOf i) (bookOf i) (atOf i) (i .item-at .result) (l .before .loop .start) (w .within .result .mask) (ended w)
+    (start-fails (nOf i) (mOf i) (tableOf i) (bookOf i) (i .item-at .result) (l .before .loop .start) (w .within .result .mask) (ended w)
     (l .loop-test .taken) (sym (has-is h) ∙ w .before .before .before .before .before .if1 .taken) (sym (t .before .is-empty .ensures) ∙ not-true _ (t .if2 .taken))
     (sym (c .before .runs-back .ensures) ∙ not-true _ (c .if3 .taken)) _ (is i b a e))
 
@@ -291,8 +281,6 @@ first-wrong-spec =
     add-requires
     loop2-holds
     add-byte-at
-    add-byte-at-2
-    add-byte-at-3
     sub-byte-at
     part-byte-at-start
     part-byte-at-end
@@ -303,8 +291,6 @@ first-wrong-spec =
     loop2-again
     within-requires
     is-empty-requires
-    add-reverse
-    add-reverse-2
     add-runs-back
     sub-runs-back
     part-runs-back-start

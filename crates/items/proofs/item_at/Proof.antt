@@ -25,14 +25,14 @@ add-byte-at-2 c = search needs
 byte-at-requires-2 : tie.Need-byte-at-requires-2
 byte-at-requires-2 c κs = search needs
 
+add-forward : tie.Need-add-forward
+add-forward c = search needs
+
+add-reverse : tie.Need-add-reverse
+add-reverse c = search needs
+
 add-masks : tie.Need-add-masks
 add-masks c = search needs
-
-add-masks-2 : tie.Need-add-masks-2
-add-masks-2 c = search needs
-
-add-masks-3 : tie.Need-add-masks-3
-add-masks-3 c = search needs
 
 u64-at-requires : tie.Need-u64-at-requires
 u64-at-requires c κs = search needs
@@ -43,8 +43,8 @@ add-u64-at c = search needs
 u64-at-requires-2 : tie.Need-u64-at-requires-2
 u64-at-requires-2 c κs = search needs
 
-add-t11 : tie.Need-add-t11
-add-t11 c = search needs
+add-t10 : tie.Need-add-t10
+add-t10 c = search needs
 
 returns-2 : tie.Need-returns-2
 returns-2 c =
@@ -61,11 +61,11 @@ item-at-spec =
     byte-at-requires
     add-byte-at-2
     byte-at-requires-2
+    add-forward
+    add-reverse
     add-masks
-    add-masks-2
-    add-masks-3
     u64-at-requires
     add-u64-at
     u64-at-requires-2
-    add-t11
+    add-t10
     returns-2)

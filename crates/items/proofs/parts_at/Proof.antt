@@ -33,8 +33,8 @@ add-reverse c = search needs
 add-masks : tie.Need-add-masks
 add-masks c = search needs
 
-add-t8 : tie.Need-add-t8
-add-t8 c = search needs
+add-next : tie.Need-add-next
+add-next c = search needs
 
 returns-2 : tie.Need-returns-2
 returns-2 c =
@@ -53,5 +53,5 @@ parts-at-spec =
     add-forward
     add-reverse
     add-masks
-    add-t8
+    add-next
     returns-2)

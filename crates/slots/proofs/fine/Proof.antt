@@ -1,4 +1,4 @@
--- `fine` meets its contract. Assumes nothing.
+-- `fine` meets its contract: each return is the first test that decides. Assumes nothing.
 use mathlib.Core.Path.{sym, _∙_}
 use Prim.Native.Nat.{_≤_}
 use native.Mathlib.Omega.{arith}
@@ -16,7 +16,13 @@ use Rattle.limits.proofs.fields_fine.Reads as fields-fine-reads
 use Rattle.octets.proofs.byte_at.Reads as byte-at-reads
 use Rattle.octets.proofs.u64_at.Reads as u64-at-reads
 
--- the counts are fine
+-- ---- places: where the counts are fine, from where the fields are, and from where the unused forward bytes are
+abbrev counted : tie.Else3 → tie.Else2
+counted c = c .before .before .before .before .before .before
+
+abbrev judged : tie.Else4 → tie.Else3
+judged c = c .before .before .before
+
 low : (c : tie.Else2) → (c .before .before .before .byte-at .result ≤ 8) × (c .before .before .byte-at2 .result ≤ 8)
 low c = let (some, most, reverse-most) = counts-on _ _ (sym (c .before .counts-fine .ensures) ∙ not-false _ (c .if2 .left)) in (most, reverse-most)
 
@@ -102,10 +108,10 @@ add-all-below : tie.Need-add-all-below
 add-all-below c = search needs
 
 sub-all-below : tie.Need-sub-all-below
-sub-all-below c = omega (arith, low (c .before .before .before .before .before .before))
+sub-all-below c = omega (arith, low (counted c))
 
 part-all-below-start : tie.Need-part-all-below-start
-part-all-below-start c = omega (arith, low (c .before .before .before .before .before .before))
+part-all-below-start c = omega (arith, low (counted c))
 
 part-all-below-end : tie.Need-part-all-below-end
 part-all-below-end c = search needs
@@ -120,10 +126,10 @@ add-all-below-2 : tie.Need-add-all-below-2
 add-all-below-2 c = search needs
 
 sub-all-below-2 : tie.Need-sub-all-below-2
-sub-all-below-2 c = omega (arith, low (c .before .before .before .before .before .before .before .before .before))
+sub-all-below-2 c = omega (arith, low (counted (judged c)))
 
 part-all-below-start-2 : tie.Need-part-all-below-start-2
-part-all-below-start-2 c = omega (arith, low (c .before .before .before .before .before .before .before .before .before))
+part-all-below-start-2 c = omega (arith, low (counted (judged c)))
 
 part-all-below-end-2 : tie.Need-part-all-below-end-2
 part-all-below-end-2 c = search needs

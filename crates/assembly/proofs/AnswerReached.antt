@@ -1,4 +1,4 @@
--- Of items whose fields the call reads and a run that is fine: what the numbers and the walk down the items leave is the answer. Assumes nothing.
+-- Of items that the call reads and a run that is fine: what the numbers and the walk down the items leave is the answer. Assumes nothing.
 use mathlib.Core.Path.{_≡_, refl, sym, ap, ap₂, _∙_, subst}
 use mathlib.Core.List.{List}
 use Prim.Native.Nat.{ℕ, _-_, _≤_, _<_}
@@ -23,22 +23,23 @@ use Rattle.runs.proofs.Points.{last-is, command-is}
 use Rattle.assembly.specs.declared.Assembly.{Assembly}
 use Rattle.assembly.specs.declared.chain.Counts.{Counts}
 use Rattle.assembly.specs.Believed.{Believed}
-use Rattle.assembly.specs.Fields.{Fields, FieldsOf}
+use Rattle.assembly.specs.Items.{Items, kOf, ItemsOf}
 use Rattle.assembly.specs.Rules.{ruleOf, Numbered}
 use Rattle.assembly.specs.ChainFollowed.{followed, Steps, planIn, legsIn, walk, Walkable, Walked}
-use Rattle.assembly.specs.Assembles.{refusal, resultOf, legsBytes}
-use Rattle.assembly.proofs.RulesAgree.{numbered-same}
+use Rattle.assembly.specs.Lent.{legsBytes, inBytes, Room}
+use Rattle.assembly.specs.Assembles.{refusal, resultOf}
+use Rattle.assembly.specs.Contract.{roomOf}
+use Rattle.assembly.proofs.RulesAgree.{Agree, numbered-same}
 use Rattle.assembly.proofs.ItemsFit.{rule-agrees}
 use Rattle.assembly.proofs.FollowedIsChosen.{followed-chosen, linked-known, plan-same, legs-same}
 
 -- result, plan and legs hold the answer a
-pub record Stored (a : Answer) (plan legs : List ℕ) (r : Assembly) (plan′ legs′ : List ℕ) : Type 0 where
+pub record Stored (a : Answer) (room : Room ℕ) (r : Assembly) (room′ : Room ℕ) : Type 0 where
   pub result-is : r ≡ resultOf a
-  pub plan-is : plan′ ≡ sets plan 0 (a .plan-bytes)
-  pub legs-is : legs′ ≡ sets legs 0 (legsBytes (a .plan-legs))
+  pub room-is : room′ ≡ roomOf inBytes room a
 
-module _ (dev : Device) (items : List Item) (run : List ℕ) (allowed : Allowed dev items (runOf run)) (F : Fields) (fields : FieldsOf items F)
-    (beliefs : List ℕ) (believed : Believed dev (runOf run) beliefs) (plan legs : List ℕ) where
+module _ (dev : Device) (items : List Item) (run : List ℕ) (allowed : Allowed dev items (runOf run)) (F : Items) (fields : ItemsOf items F)
+    (beliefs : List ℕ) (believed : Believed dev (runOf run) beliefs) (room : Room ℕ) where
   abbrev r : Run
   r = runOf run
 
@@ -54,20 +55,21 @@ module _ (dev : Device) (items : List Item) (run : List ℕ) (allowed : Allowed 
     unfolding answer pick
     answer-10 = rw (eq-eqb (belief dev r 0) 0 (sym (believed .each 0 (omega arith)) ∙ none-left))
 
-    pub no-state : {w : Assembly} → w ≡ refusal 10 0 → Stored (answer dev items r) plan legs w plan legs
+    pub no-state : {w : Assembly} → w ≡ refusal 10 0 → Stored (answer dev items r) room w room
     unfolding legsBytes
     no-state {w} e =
-        subst (λ (a : Answer). Stored a plan legs w plan legs) (sym answer-10) (record { result-is = e; plan-is = refl; legs-is = refl })
+        subst (λ (a : Answer). Stored a room w room) (sym answer-10) (record { result-is = e; room-is = refl })
 
   -- ---- codes 11 and 0
   module _ (some : getD beliefs 0 0 ≡ 0 → ⊥) {fewest firsts : List ℕ} (fieldwise : Numbered (ruleOf F run beliefs (length items)) i fewest firsts) where
     possible : belief dev r 0 ≡ 0 → ⊥
     possible e = some (believed .each 0 (omega arith) ∙ e)
 
+    agrees : Agree i (ruleOf F run beliefs (length items)) Q
+    agrees = rule-agrees dev r items F fields run beliefs (λ y q. command-is run y (omega (arith, last-is run))) (believed .each)
+
     num : Numbered Q i fewest firsts
-    num =
-        numbered-same
-        (rule-agrees dev r items F fields run beliefs (λ y q. command-is run y (omega (arith, last-is run))) (believed .each)) fieldwise
+    num = numbered-same agrees fieldwise
 
     fewest-is : fewest ≡ numbers dev r items
     unfolding numbers
@@ -84,12 +86,12 @@ module _ (dev : Device) (items : List Item) (run : List ℕ) (allowed : Allowed 
       unfolding answer pick
       answer-11 = rw (ne-eqb (belief dev r 0) 0 possible, eq-eqb (leastAt Q i) (Q .top) (sym least-is ∙ no-number)) (ap (refused 11) (sym fewest-is))
 
-      pub no-chain : Stored (answer dev items r) plan legs (record { code = 11; place = 0; commands = 0; legs = 0; fewest = fewest }) plan legs
+      pub no-chain : Stored (answer dev items r) room (record { code = 11; place = 0; commands = 0; legs = 0; fewest = fewest }) room
       unfolding legsBytes
       no-chain =
           subst
-          (λ (a : Answer). Stored a plan legs (record { code = 11; place = 0; commands = 0; legs = 0; fewest = fewest }) plan legs)
-          (sym answer-11) (record { result-is = refl; plan-is = refl; legs-is = refl })
+          (λ (a : Answer). Stored a room (record { code = 11; place = 0; commands = 0; legs = 0; fewest = fewest }) room)
+          (sym answer-11) (record { result-is = refl; room-is = refl })
 
     module _ (number : getD fewest i 0 ≡ Q .top → ⊥) where
       abbrev xs : List ℕ
@@ -114,7 +116,7 @@ module _ (dev : Device) (items : List Item) (run : List ℕ) (allowed : Allowed 
       known = linked-known Q xs i (linked .0)
 
       walks : (followed F firsts i i ≡ xs) × Steps F firsts i i
-      walks = followed-chosen Q (sound dev items r allowed) F (fields .k-is) num i i (omega arith) (omega arith) below
+      walks = followed-chosen Q (sound dev items r allowed) F (agrees .k-same) num i i (omega arith) (omega arith) below
 
       plan-is : planIn F (walk F firsts i) ≡ planOf items xs
       plan-is = ap (planIn F) (walks .0) ∙ plan-same items F fields xs known
@@ -130,16 +132,17 @@ module _ (dev : Device) (items : List Item) (run : List ℕ) (allowed : Allowed 
             short = omega (arith, ap (λ (l : List ℕ). length l) plan-is, total-cost dev items r allowed xs, linked .1, below);
           }
 
-      pub chain-stored : {w : Counts} {plan′ legs′ : List ℕ} → Walked F firsts i plan legs w plan′ legs′
-          → Stored (answer dev items r) plan legs (record { code = 0; place = 0; commands = w .commands; legs = w .legs; fewest = fewest }) plan′ legs′
-      chain-stored {w} {plan′} {legs′} g =
+      pub chain-stored : {w : Counts} {room′ : Room ℕ} → Walked F firsts i (room .plan) (room .legs) w (room′ .plan) (room′ .legs)
+          → Stored (answer dev items r) room (record { code = 0; place = 0; commands = w .commands; legs = w .legs; fewest = fewest }) room′
+      chain-stored {w} {room′} g =
           subst
-          (λ (a : Answer). Stored a plan legs (record { code = 0; place = 0; commands = w .commands; legs = w .legs; fewest = fewest }) plan′ legs′)
+          (λ (a : Answer). Stored a room (record { code = 0; place = 0; commands = w .commands; legs = w .legs; fewest = fewest }) room′)
           (sym answer-0)
           (record {
             result-is =
                 ap₂ (λ (x y : ℕ). record { code = 0; place = 0; commands = x; legs = y; fewest = fewest })
                 (g .commands-is ∙ ap (λ (l : List ℕ). length l) plan-is) (g .count-is ∙ ap (λ (l : List ℕ). length l) (walks .0));
-            plan-is = g .plan-is ∙ ap (sets plan 0) plan-is;
-            legs-is = g .legs-is ∙ ap (sets legs 0) legs-are;
+            room-is =
+                ap₂ (λ (x y : List ℕ). record { plan = x; legs = y })
+                (g .plan-is ∙ ap (sets (room .plan) 0) plan-is) (g .legs-is ∙ ap (sets (room .legs) 0) legs-are);
           })

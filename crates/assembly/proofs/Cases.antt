@@ -10,7 +10,7 @@ use Rattle.book.proofs.Example.{device-bookQ}
 use Rattle.reader.proofs.Cases.{bytes-Q}
 use Rattle.checker.proofs.Cases.{accepted-Q}
 use Rattle.runs.specs.RunBytes.{runBytes}
-use Rattle.assembly.specs.Assembles.{LegForm, inBytes, legsBytes}
+use Rattle.assembly.specs.Lent.{LegForm, inBytes, legsBytes}
 use Rattle.assembly.specs.Demand.{Given}
 use Rattle.assembly.specs.Cases.{BytesGive, Runs, LegRuns}
 use Rattle.assembly.proofs.Unique.{left-at}
@@ -18,7 +18,7 @@ use Rattle.assembly.proofs.Unique.{left-at}
 module _ {E : Type 0} (form : LegForm E) where
   give : (u : Run) (a : Answer) → AllowedRun Q u → Gives u a → BytesGive form u a
   give u a ok g =
-      record { left = λ x room long. left-at bytes-Q x room long given (subst (λ (d : Device). Answers d itemsQ u a) (sym device-bookQ) g) }
+      record { left = λ x long. left-at bytes-Q x long given (subst (λ (d : Device). Answers d itemsQ u a) (sym device-bookQ) g) }
     where
       given : Given bytesQ (runBytes u) bookQ u
       given = record { accepted = accepted-Q; allowed = subst (λ (d : Device). AllowedRun d u) (sym device-bookQ) ok; run-bytes = refl }
@@ -41,12 +41,12 @@ pub leg-runs : LegRuns
 unfolding legsBytes
 leg-runs =
     record {
-      q5 = record { written = λ x room long. runs inBytes .q5 .left x room long .legs-written };
-      q6 = record { written = λ x room long. runs inBytes .q6 .left x room long .legs-written };
-      q7 = record { written = λ x room long. runs inBytes .q7 .left x room long .legs-written };
-      q8 = record { written = λ x room long. runs inBytes .q8 .left x room long .legs-written };
-      q9 = record { written = λ x room long. runs inBytes .q9 .left x room long .legs-written };
-      q10 = record { written = λ x room long. runs inBytes .q10 .left x room long .legs-written };
-      q11 = record { written = λ x room long. runs inBytes .q11 .left x room long .legs-written };
-      q12 = record { written = λ x room long. runs inBytes .q12 .left x room long .legs-written };
+      q5 = record { written = λ x long. runs inBytes .q5 .left x long .legs-written };
+      q6 = record { written = λ x long. runs inBytes .q6 .left x long .legs-written };
+      q7 = record { written = λ x long. runs inBytes .q7 .left x long .legs-written };
+      q8 = record { written = λ x long. runs inBytes .q8 .left x long .legs-written };
+      q9 = record { written = λ x long. runs inBytes .q9 .left x long .legs-written };
+      q10 = record { written = λ x long. runs inBytes .q10 .left x long .legs-written };
+      q11 = record { written = λ x long. runs inBytes .q11 .left x long .legs-written };
+      q12 = record { written = λ x long. runs inBytes .q12 .left x long .legs-written };
     }

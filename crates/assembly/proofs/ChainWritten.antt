@@ -8,7 +8,7 @@ use lib.Seq.{sets, length-sets}
 use Rattle.octets.specs.Le.{bytesLe}
 use Rattle.octets.proofs.Le.{byte-one}
 use Rattle.octets.proofs.Put.{sets-append}
-use Rattle.assembly.specs.Fields.{Fields}
+use Rattle.assembly.specs.Items.{Items, kOf}
 use Rattle.assembly.specs.ChainFollowed.{followed, Steps, planIn, legBytes, legsIn, walk, Walkable, Walked}
 
 -- ---- a leg in three stores
@@ -32,41 +32,41 @@ leg-stored l at a u v {d} {e} {f} ha hu hv p q r =
 abbrev at : List ℕ → ℕ → ℕ
 at items j = getD items j 0
 
-abbrev down : Fields → List ℕ → ℕ → ℕ
-down F items j = F .k (at items j)
+abbrev down : Items → List ℕ → ℕ → ℕ
+down F items j = kOf F (at items j)
 
 -- its first item, with f more at most
-record Next (F : Fields) (items : List ℕ) (f j : ℕ) : Type 0 where
+record Next (F : Items) (items : List ℕ) (f j : ℕ) : Type 0 where
   rest : ℕ
   fewer : f ≡ suc rest
   chain : followed F items f j ≡ at items j ∷ followed F items rest (j - down F items j)
   goes : Steps F items f j → (1 ≤ down F items j) × (down F items j ≤ j) × Steps F items rest (j - down F items j)
 
-next : (F : Fields) (items : List ℕ) (f j : ℕ) → j ≤ f → 0 < j → Next F items f j
+next : (F : Items) (items : List ℕ) (f j : ℕ) → j ≤ f → 0 < j → Next F items f j
 unfolding followed Steps
 next F items zero zero l h = absurd (omega arith)
 next F items zero (suc j) l h = absurd (omega arith)
 next F items (suc f) zero l h = absurd (omega arith)
 next F items (suc f) (suc j) l h = record { rest = f; fewer = refl; chain = refl; goes = λ s. s }
 
-followed-none : (F : Fields) (items : List ℕ) (f : ℕ) → followed F items f 0 ≡ []
+followed-none : (F : Items) (items : List ℕ) (f : ℕ) → followed F items f 0 ≡ []
 unfolding followed
 followed-none F items zero = refl
 followed-none F items (suc f) = refl
 
-plan-nil : (F : Fields) → planIn F [] ≡ []
+plan-nil : (F : Items) → planIn F [] ≡ []
 unfolding planIn
 plan-nil F = refl
 
-plan-cons : (F : Fields) (a : ℕ) (xs : List ℕ) → planIn F (a ∷ xs) ≡ F .reverse a ++ planIn F xs
+plan-cons : (F : Items) (a : ℕ) (xs : List ℕ) → planIn F (a ∷ xs) ≡ F a .reverse ++ planIn F xs
 unfolding planIn
 plan-cons F a xs = refl
 
-legs-nil : (F : Fields) (j : ℕ) → legsIn F j [] ≡ []
+legs-nil : (F : Items) (j : ℕ) → legsIn F j [] ≡ []
 unfolding legsIn
 legs-nil F j = refl
 
-legs-cons : (F : Fields) (j a : ℕ) (xs : List ℕ) → legsIn F j (a ∷ xs) ≡ legBytes a j (j - F .k a) ++ legsIn F (j - F .k a) xs
+legs-cons : (F : Items) (j a : ℕ) (xs : List ℕ) → legsIn F j (a ∷ xs) ≡ legBytes a j (j - kOf F a) ++ legsIn F (j - kOf F a) xs
 unfolding legsIn
 legs-cons F j a xs = refl
 
@@ -75,7 +75,7 @@ sets-none l p = refl
 
 -- ---- the loop
 -- at point j, after `count` items, with `left` more at most
-pub record Walking (F : Fields) (items : List ℕ) (i : ℕ) (plan₀ legs₀ plan legs : List ℕ) (j commands count : ℕ) : Type 0 where
+pub record Walking (F : Items) (items : List ℕ) (i : ℕ) (plan₀ legs₀ plan legs : List ℕ) (j commands count : ℕ) : Type 0 where
   pub left : ℕ
   pub counted : count + left ≡ i
   pub room : j ≤ left
@@ -87,7 +87,7 @@ pub record Walking (F : Fields) (items : List ℕ) (i : ℕ) (plan₀ legs₀ pl
   pub commands-todo : commands + length (planIn F (followed F items left j)) ≡ length (planIn F (walk F items i))
   pub count-todo : count + length (followed F items left j) ≡ length (walk F items i)
 
-pub walking-start : {F : Fields} {items : List ℕ} {i : ℕ} {plan₀ legs₀ : List ℕ} → Walkable F items i
+pub walking-start : {F : Items} {items : List ℕ} {i : ℕ} {plan₀ legs₀ : List ℕ} → Walkable F items i
     → Walking F items i plan₀ legs₀ plan₀ legs₀ i 0 0
 walking-start {F} {items} {i} {plan₀} {legs₀} w =
     record {
@@ -103,16 +103,16 @@ walking-start {F} {items} {i} {plan₀} {legs₀} w =
       count-todo = omega arith;
     }
 
-module _ {F : Fields} {items : List ℕ} {i : ℕ} {plan₀ legs₀ plan legs : List ℕ} {j commands count : ℕ}
+module _ {F : Items} {items : List ℕ} {i : ℕ} {plan₀ legs₀ plan legs : List ℕ} {j commands count : ℕ}
     (g : Walking F items i plan₀ legs₀ plan legs j commands count) where
   -- the item at point j goes down, and not below 0
-  pub step-down : 0 < j → (a k : ℕ) → a ≡ at items j → k ≡ F .k a → (1 ≤ k) × (k ≤ j)
+  pub step-down : 0 < j → (a k : ℕ) → a ≡ at items j → k ≡ kOf F a → (1 ≤ k) × (k ≤ j)
   step-down h a k ea ek =
       let (u, v, w) = next F items (g .left) j (g .room) h .goes (g .steps) in
-      let e : k ≡ down F items j = ek ∙ ap (F .k) ea in
+      let e : k ≡ down F items j = ek ∙ ap (kOf F) ea in
       (omega arith, omega arith)
 
-  module _ (h : 0 < j) (a k r : ℕ) (ea : a ≡ at items j) (ek : k ≡ F .k a) (er : r ≡ length (F .reverse a)) where
+  module _ (h : 0 < j) (a k r : ℕ) (ea : a ≡ at items j) (ek : k ≡ kOf F a) (er : r ≡ length (F a .reverse)) where
     abbrev n : Next F items (g .left) j
     n = next F items (g .left) j (g .room) h
 
@@ -120,7 +120,7 @@ module _ {F : Fields} {items : List ℕ} {i : ℕ} {plan₀ legs₀ plan legs : 
     goes = n .goes (g .steps)
 
     low : j - k ≡ j - down F items j
-    low = ap (λ (x : ℕ). j - x) (ek ∙ ap (F .k) ea)
+    low = ap (λ (x : ℕ). j - x) (ek ∙ ap (kOf F) ea)
 
     abbrev xs : List ℕ
     xs = followed F items (n .rest) (j - k)
@@ -130,23 +130,23 @@ module _ {F : Fields} {items : List ℕ} {i : ℕ} {plan₀ legs₀ plan legs : 
         n .chain ∙ ap (λ (x : ℕ). x ∷ followed F items (n .rest) (j - down F items j)) (sym ea)
         ∙ ap (λ (x : ℕ). a ∷ followed F items (n .rest) x) (sym low)
 
-    plan-is : planIn F (followed F items (g .left) j) ≡ F .reverse a ++ planIn F xs
+    plan-is : planIn F (followed F items (g .left) j) ≡ F a .reverse ++ planIn F xs
     plan-is = ap (planIn F) chain ∙ plan-cons F a xs
 
     legs-is : legsIn F j (followed F items (g .left) j) ≡ legBytes a j (j - k) ++ legsIn F (j - k) xs
     legs-is = ap (legsIn F j) chain ∙ legs-cons F j a xs ∙ ap (λ (x : ℕ). legBytes a j (j - x) ++ legsIn F (j - x) xs) (sym ek)
 
-    sizes : length (planIn F (followed F items (g .left) j)) ≡ length (F .reverse a) + length (planIn F xs)
-    sizes = ap (λ (x : List ℕ). length x) plan-is ∙ length-append (F .reverse a) (planIn F xs)
+    sizes : length (planIn F (followed F items (g .left) j)) ≡ length (F a .reverse) + length (planIn F xs)
+    sizes = ap (λ (x : List ℕ). length x) plan-is ∙ length-append (F a .reverse) (planIn F xs)
 
     pub step-commands : commands + r ≤ length (planIn F (walk F items i))
     step-commands = omega (arith, g .commands-todo, sizes)
 
-    module _ {plan′ legs′ : List ℕ} (ep : plan′ ≡ sets plan commands (F .reverse a)) (el : legs′ ≡ sets legs (3 * count) (legBytes a j (j - k))) where
+    module _ {plan′ legs′ : List ℕ} (ep : plan′ ≡ sets plan commands (F a .reverse)) (el : legs′ ≡ sets legs (3 * count) (legBytes a j (j - k))) where
       plan-todo : sets plan′ (commands + r) (planIn F xs) ≡ sets plan₀ 0 (planIn F (walk F items i))
       plan-todo =
           ap (λ (x : List ℕ). sets x (commands + r) (planIn F xs)) ep
-          ∙ sets-append plan commands (commands + r) (F .reverse a) (planIn F xs) (omega arith)
+          ∙ sets-append plan commands (commands + r) (F a .reverse) (planIn F xs) (omega arith)
           ∙ ap (sets plan commands) (sym plan-is) ∙ g .plan-todo
 
       legs-todo : sets legs′ (3 * (count + 1)) (legsIn F (j - k) xs) ≡ sets legs₀ 0 (legsIn F i (walk F items i))
@@ -160,9 +160,9 @@ module _ {F : Fields} {items : List ℕ} {i : ℕ} {plan₀ legs₀ plan legs : 
           record {
             left = n .rest;
             counted = omega (arith, g .counted, n .fewer);
-            room = omega (arith, g .room, n .fewer, ek, ap (F .k) ea, goes .0);
+            room = omega (arith, g .room, n .fewer, ek, ap (kOf F) ea, goes .0);
             steps = subst (Steps F items (n .rest)) (sym low) (goes .2);
-            plan-size = ap (λ (x : List ℕ). length x) ep ∙ length-sets plan commands (F .reverse a) ∙ g .plan-size;
+            plan-size = ap (λ (x : List ℕ). length x) ep ∙ length-sets plan commands (F a .reverse) ∙ g .plan-size;
             legs-size = ap (λ (x : List ℕ). length x) el ∙ length-sets legs (3 * count) (legBytes a j (j - k)) ∙ g .legs-size;
             plan-todo = plan-todo;
             legs-todo = legs-todo;

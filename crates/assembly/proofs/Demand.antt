@@ -14,7 +14,8 @@ use Rattle.book.specs.Book.{Book, deviceOf}
 use Rattle.checker.specs.Checks.{AllAccepted}
 use Rattle.checker.proofs.Unique.{accepted-book, check-codes, not-eleven}
 use Rattle.assembly.specs.declared.Assembly.{Assembly}
-use Rattle.assembly.specs.Assembles.{LegForm, Left, Assembles, short, unaccepted, faulty, answered}
+use Rattle.assembly.specs.Lent.{LegForm, AllLent}
+use Rattle.assembly.specs.Assembles.{Left, Assembles, short, unaccepted, faulty, answered}
 use Rattle.assembly.specs.Demand.{Given, Ready, Planned, Demand}
 use Rattle.assembly.proofs.Exactly.{Even, length-legs}
 use Rattle.assembly.proofs.Unique.{given-answer}
@@ -23,35 +24,35 @@ neither : {x y : ℕ} → ((x ≡ 0) ⊎ (x ≡ 11)) → x ≡ y → (y ≡ 0 �
 neither (inl z) e n m = n (sym e ∙ z)
 neither (inr z) e n m = m (sym e ∙ z)
 
-module _ {E : Type 0} {form : LegForm E} (even : Even form) {book run t d plan₀ : List ℕ} {legs₀ : List E} {r : Assembly} {t′ d′ plan′ : List ℕ} {legs′ : List E}
-    (h : Bytes book) (x : Assembles form book run t d plan₀ legs₀ r t′ d′ plan′ legs′) where
+module _ {E : Type 0} {form : LegForm E} (even : Even form) {book run : List ℕ} {l : AllLent E} {r : Assembly} {l′ : AllLent E} (h : Bytes book)
+    (x : Assembles form book run l r l′) where
   code-of : {y : Assembly} → r ≡ y → r .code ≡ y .code
   code-of e = ap (λ (y : Assembly). y .code) e
 
   -- the code of an answer
-  code-at : {a y : Answer} → Left form a plan₀ legs₀ r plan′ legs′ → a ≡ y → r .code ≡ y .code
+  code-at : {a y : Answer} → Left form a (l .room) r (l′ .room) → a ≡ y → r .code ≡ y .code
   code-at w e = code-of (w .result-is) ∙ ap (λ (y : Answer). y .code) e
 
   -- ---- where all before is in order
-  module _ {b : Book} {u : Run} (ready : Ready form book run t d plan₀ legs₀ b u) where
+  module _ {b : Book} {u : Run} (ready : Ready form book run l b u) where
     none-then-11 : ((ys : List ℕ) → Chain (deviceOf b) u (b .items) (last u) ys → ⊥) → r .code ≡ 11
-    none-then-11 n = let (a, right, left) = given-answer h x (ready .room) (ready .long) (ready .given) in go right left
+    none-then-11 n = let (a, right, left) = given-answer h x (ready .long) (ready .given) in go right left
       where
-        go : {a : Answer} → Answers (deviceOf b) (b .items) u a → Left form a plan₀ legs₀ r plan′ legs′ → r .code ≡ 11
+        go : {a : Answer} → Answers (deviceOf b) (b .items) u a → Left form a (l .room) r (l′ .room) → r .code ≡ 11
         go (no-history q e) w = absurd (q (ready .path) (ready .history))
-        go (no-chain p v q ns l e) w = code-at w e
-        go (done p v xs best ns l e) w = absurd (n xs (best .chain))
+        go (no-chain p v q ns m e) w = code-at w e
+        go (done p v xs best ns m e) w = absurd (n xs (best .chain))
 
     some-then-0 : (ys : List ℕ) → Chain (deviceOf b) u (b .items) (last u) ys → r .code ≡ 0
-    some-then-0 ys k = let (a, right, left) = given-answer h x (ready .room) (ready .long) (ready .given) in go right left
+    some-then-0 ys k = let (a, right, left) = given-answer h x (ready .long) (ready .given) in go right left
       where
-        go : {a : Answer} → Answers (deviceOf b) (b .items) u a → Left form a plan₀ legs₀ r plan′ legs′ → r .code ≡ 0
+        go : {a : Answer} → Answers (deviceOf b) (b .items) u a → Left form a (l .room) r (l′ .room) → r .code ≡ 0
         go (no-history q e) w = absurd (q (ready .path) (ready .history))
-        go (no-chain p v q ns l e) w = absurd (q ys k)
-        go (done p v xs best ns l e) w = code-at w e
+        go (no-chain p v q ns m e) w = absurd (q ys k)
+        go (done p v xs best ns m e) w = code-at w e
 
   -- ---- where the code is 0
-  module _ (b : Book) (u : Run) (accepted : AllAccepted b) {a : Answer} (w : Left form a plan₀ legs₀ r plan′ legs′) {xs ns : List ℕ}
+  module _ (b : Book) (u : Run) (accepted : AllAccepted b) {a : Answer} (w : Left form a (l .room) r (l′ .room)) {xs ns : List ℕ}
       (best : Best (deviceOf b) u (b .items) xs) (q : a ≡ assembled (b .items) (last u) xs ns) where
     counted : r .commands ≡ length (planOf (b .items) xs)
     counted = ap (λ (y : Assembly). y .commands) (w .result-is) ∙ ap (λ (y : Answer). y .commands) q
@@ -59,19 +60,19 @@ module _ {E : Type 0} {form : LegForm E} (even : Even form) {book run t d plan�
     legs-counted : r .legs ≡ length xs
     legs-counted = ap (λ (y : Assembly). y .legs) (w .result-is) ∙ ap (λ (y : Answer). y .leg-count) q
 
-    plan-written : take (r .commands) plan′ ≡ planOf (b .items) xs
+    plan-written : take (r .commands) (l′ .room .plan) ≡ planOf (b .items) xs
     plan-written =
-        ap (λ (n : ℕ). take n plan′) (counted ∙ sym (ap (λ (y : Answer). length (y .plan-bytes)) q)) ∙ w .plan-written .front
+        ap (λ (n : ℕ). take n (l′ .room .plan)) (counted ∙ sym (ap (λ (y : Answer). length (y .plan-bytes)) q)) ∙ w .plan-written .front
         ∙ ap (λ (y : Answer). y .plan-bytes) q
 
-    legs-written : take (form .width * r .legs) legs′ ≡ form .held (legsOf (b .items) (last u) xs)
+    legs-written : take (form .width * r .legs) (l′ .room .legs) ≡ form .held (legsOf (b .items) (last u) xs)
     legs-written =
-        ap (λ (n : ℕ). take n legs′)
+        ap (λ (n : ℕ). take n (l′ .room .legs))
         (ap (λ (n : ℕ). form .width * n) (legs-counted ∙ sym (length-legs (b .items) xs (last u))) ∙ sym (even (legsOf (b .items) (last u) xs))
         ∙ sym (ap (λ (y : Answer). length (form .held (y .plan-legs))) q))
         ∙ w .legs-written .front ∙ ap (λ (y : Answer). form .held (y .plan-legs)) q
 
-    planned : Planned form b u r plan′ legs′
+    planned : Planned form b u r (l′ .room)
     planned =
         record {
           items = xs;
@@ -87,43 +88,43 @@ module _ {E : Type 0} {form : LegForm E} (even : Even form) {book run t d plan�
 
   -- ---- the cases of 01's table
   abbrev Is : Type 0
-  Is = Assembles form book run t d plan₀ legs₀ r t′ d′ plan′ legs′
+  Is = Assembles form book run l r l′
 
-  given-plan : r .code ≡ 0 → Is → (b : Book) × ((u : Run) × Given book run b u × Planned form b u r plan′ legs′)
-  given-plan z (short a e k w) = absurd (omega (arith, code-of e))
-  given-plan z (unaccepted room ck n e w) = absurd (n (sym (code-of e) ∙ z))
-  given-plan z (faulty room b k n e w) = absurd (omega (arith, code-of e))
-  given-plan z (answered room b k u al ub an (no-history n q) w) = absurd (omega (arith, code-at w q))
-  given-plan z (answered room b k u al ub an (no-chain p v n ns m q) w) = absurd (omega (arith, code-at w q))
-  given-plan z (answered room b k u al ub an (done p v xs best ns m q) w) =
+  given-plan : r .code ≡ 0 → Is → (b : Book) × ((u : Run) × Given book run b u × Planned form b u r (l′ .room))
+  given-plan z (short a e k) = absurd (omega (arith, code-of e))
+  given-plan z (unaccepted long ck n e w) = absurd (n (sym (code-of e) ∙ z))
+  given-plan z (faulty long b k n e w) = absurd (omega (arith, code-of e))
+  given-plan z (answered long b k u al ub an (no-history n q) w) = absurd (omega (arith, code-at w q))
+  given-plan z (answered long b k u al ub an (no-chain p v n ns m q) w) = absurd (omega (arith, code-at w q))
+  given-plan z (answered long b k u al ub an (done p v xs best ns m q) w) =
       (b, (u, record { accepted = accepted-book k; allowed = al; run-bytes = ub }, planned b u (k .accepted) w best q))
 
   none-given : r .code ≡ 11 → Is
-      → (b : Book) × ((u : Run) × Ready form book run t d plan₀ legs₀ b u × ((ys : List ℕ) → Chain (deviceOf b) u (b .items) (last u) ys → ⊥))
-  none-given z (short a e k w) = absurd (omega (arith, code-of e))
-  none-given z (unaccepted room ck n e w) = absurd (not-eleven (check-codes ck) (sym (code-of e) ∙ z))
-  none-given z (faulty room b k n e w) = absurd (omega (arith, code-of e))
-  none-given z (answered room b k u al ub an (no-history n q) w) = absurd (omega (arith, code-at w q))
-  none-given z (answered room b k u al ub an (no-chain p v n ns m q) w) =
+      → (b : Book) × ((u : Run) × Ready form book run l b u × ((ys : List ℕ) → Chain (deviceOf b) u (b .items) (last u) ys → ⊥))
+  none-given z (short a e k) = absurd (omega (arith, code-of e))
+  none-given z (unaccepted long ck n e w) = absurd (not-eleven (check-codes ck) (sym (code-of e) ∙ z))
+  none-given z (faulty long b k n e w) = absurd (omega (arith, code-of e))
+  none-given z (answered long b k u al ub an (no-history n q) w) = absurd (omega (arith, code-at w q))
+  none-given z (answered long b k u al ub an (no-chain p v n ns m q) w) =
       let given : Given book run b u = record { accepted = accepted-book k; allowed = al; run-bytes = ub } in
-      (b, (u, record { room = room; long = k .filled .long; given = given; path = p; history = v }, n))
-  none-given z (answered room b k u al ub an (done p v xs best ns m q) w) = absurd (omega (arith, code-at w q))
+      (b, (u, record { long = long; given = given; path = p; history = v }, n))
+  none-given z (answered long b k u al ub an (done p v xs best ns m q) w) = absurd (omega (arith, code-at w q))
 
-  numbers-at : {a : Answer} (b : Book) (u : Run) {ns : List ℕ} → Left form a plan₀ legs₀ r plan′ legs′ → a .fewest ≡ ns → Numbers (deviceOf b) u (b .items) ns
+  numbers-at : {a : Answer} (b : Book) (u : Run) {ns : List ℕ} → Left form a (l .room) r (l′ .room) → a .fewest ≡ ns → Numbers (deviceOf b) u (b .items) ns
       → Numbers (deviceOf b) u (b .items) (r .fewest)
   numbers-at b u w q m = subst (Numbers (deviceOf b) u (b .items)) (sym (ap (λ (y : Assembly). y .fewest) (w .result-is) ∙ q)) m
 
   numbers-of : ((r .code ≡ 0) ⊎ (r .code ≡ 11)) → Is → (b : Book) × ((u : Run) × Given book run b u × Numbers (deviceOf b) u (b .items) (r .fewest))
-  numbers-of z (short a e k w) = absurd (neither z (code-of e) (λ q. omega arith) (λ q. omega arith))
-  numbers-of z (unaccepted room ck n e w) = absurd (neither z (code-of e) n (not-eleven (check-codes ck)))
-  numbers-of z (faulty room b k n e w) = absurd (neither z (code-of e) (λ q. omega arith) (λ q. omega arith))
-  numbers-of z (answered room b k u al ub an (no-history n q) w) = absurd (neither z (code-at w q) (λ v. omega arith) (λ v. omega arith))
-  numbers-of z (answered room b k u al ub an (no-chain p v n ns m q) w) =
+  numbers-of z (short a e k) = absurd (neither z (code-of e) (λ q. omega arith) (λ q. omega arith))
+  numbers-of z (unaccepted long ck n e w) = absurd (neither z (code-of e) n (not-eleven (check-codes ck)))
+  numbers-of z (faulty long b k n e w) = absurd (neither z (code-of e) (λ q. omega arith) (λ q. omega arith))
+  numbers-of z (answered long b k u al ub an (no-history n q) w) = absurd (neither z (code-at w q) (λ v. omega arith) (λ v. omega arith))
+  numbers-of z (answered long b k u al ub an (no-chain p v n ns m q) w) =
       (b, (u, record { accepted = accepted-book k; allowed = al; run-bytes = ub }, numbers-at b u w (ap (λ (y : Answer). y .fewest) q) m))
-  numbers-of z (answered room b k u al ub an (done p v xs best ns m q) w) =
+  numbers-of z (answered long b k u al ub an (done p v xs best ns m q) w) =
       (b, (u, record { accepted = accepted-book k; allowed = al; run-bytes = ub }, numbers-at b u w (ap (λ (y : Answer). y .fewest) q) m))
 
-  pub demand : Demand form book run t d plan₀ legs₀ r plan′ legs′
+  pub demand : Demand form book run l r l′
   demand =
       record {
         plan-given = λ z. given-plan z x;

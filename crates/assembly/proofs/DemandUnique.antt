@@ -15,7 +15,7 @@ use Rattle.book.proofs.Device.{device-proper}
 use Rattle.book.proofs.Unique.{one-book}
 use Rattle.runs.proofs.Formed.{one-run}
 use Rattle.assembly.specs.declared.Assembly.{Assembly}
-use Rattle.assembly.specs.Assembles.{LegForm}
+use Rattle.assembly.specs.Lent.{LegForm, Room, AllLent}
 use Rattle.assembly.specs.Demand.{Given, Ready, Planned, Demand}
 
 -- the bytes have one book and one run
@@ -26,7 +26,7 @@ same-given {b = b} {b′ = b′} {u = u} {u′ = u′} g g′ =
     (x, one-run (deviceOf b′) (g′ .accepted .allowed .device .n-high) al (g′ .allowed) (g .run-bytes ∙ sym (g′ .run-bytes)))
 
 -- the chain of a plan is the best one
-best : {E : Type 0} {form : LegForm E} {b : Book} {u : Run} {r : Assembly} {p : List ℕ} {l : List E} → (a : Planned form b u r p l)
+best : {E : Type 0} {form : LegForm E} {b : Book} {u : Run} {r : Assembly} {x : Room E} → (a : Planned form b u r x)
     → Best (deviceOf b) u (b .items) (a .items)
 best a =
     record {
@@ -36,13 +36,13 @@ best a =
     }
 
 -- counts, plan and legs
-abbrev pub SamePlan : {E : Type 0} → LegForm E → Assembly → Assembly → List ℕ → List ℕ → List E → List E → Type 0
-SamePlan form r q p p′ l l′ =
-    (r .commands ≡ q .commands) × (r .legs ≡ q .legs) × (take (r .commands) p ≡ take (q .commands) p′)
-    × (take (form .width * r .legs) l ≡ take (form .width * q .legs) l′)
+abbrev pub SamePlan : {E : Type 0} → LegForm E → Assembly → Assembly → Room E → Room E → Type 0
+SamePlan form r q x y =
+    (r .commands ≡ q .commands) × (r .legs ≡ q .legs) × (take (r .commands) (x .plan) ≡ take (q .commands) (y .plan))
+    × (take (form .width * r .legs) (x .legs) ≡ take (form .width * q .legs) (y .legs))
 
-planned-unique : {E : Type 0} (form : LegForm E) (b : Book) (u : Run) {r q : Assembly} {p p′ : List ℕ} {l l′ : List E} → Planned form b u r p l
-    → Planned form b u q p′ l′ → SamePlan form r q p p′ l l′
+planned-unique : {E : Type 0} (form : LegForm E) (b : Book) (u : Run) {r q : Assembly} {x y : Room E} → Planned form b u r x → Planned form b u q y
+    → SamePlan form r q x y
 planned-unique form b u a c =
     let same : a .items ≡ c .items = best-unique (deviceOf b) (b .items) u (a .items) (c .items) (best a) (best c) in (
       a .commands-counted ∙ (ap (cost (b .items)) same ∙ sym (c .commands-counted)),
@@ -51,17 +51,16 @@ planned-unique form b u a c =
       a .legs-written ∙ (ap (λ (xs : List ℕ). form .held (legsOf (b .items) (last u) xs)) same ∙ sym (c .legs-written)),
     )
 
-module _ {E : Type 0} (form : LegForm E) {book run table slots plan : List ℕ} {legs : List E} {b : Book} {u : Run}
-    (ready : Ready form book run table slots plan legs b u) where
-  abbrev Is : Assembly → List ℕ → List E → Type 0
-  Is r p l = Demand form book run table slots plan legs r p l
+module _ {E : Type 0} (form : LegForm E) {book run : List ℕ} {l : AllLent E} {b : Book} {u : Run} (ready : Ready form book run l b u) where
+  abbrev Is : Assembly → AllLent E → Type 0
+  Is r l′ = Demand form book run l r l′
 
-  module _ {r : Assembly} {p : List ℕ} {l : List E} (x : Is r p l) where
-    planned : r .code ≡ 0 → Planned form b u r p l
+  module _ {r : Assembly} {l′ : AllLent E} (x : Is r l′) where
+    planned : r .code ≡ 0 → Planned form b u r (l′ .room)
     planned z =
         let (b′, (u′, g, a)) = x .plan-given z in
         let (e, f) = same-given g (ready .given) in
-        subst (λ (v : Run). Planned form b v r p l) f (subst (λ (y : Book). Planned form y u′ r p l) e a)
+        subst (λ (v : Run). Planned form b v r (l′ .room)) f (subst (λ (y : Book). Planned form y u′ r (l′ .room)) e a)
 
     numbers-are : (r .code ≡ 0) ⊎ (r .code ≡ 11) → Numbers (deviceOf b) u (b .items) (r .fewest)
     numbers-are z =
@@ -78,12 +77,12 @@ module _ {E : Type 0} (form : LegForm E) {book run table slots plan : List ℕ} 
         run = ready .given .allowed;
       }
 
-  pub demand-unique : {r q : Assembly} {p p′ : List ℕ} {l l′ : List E} → Is r p l → Is q p′ l′
-      → (r .code ≡ q .code) × (r .fewest ≡ q .fewest) × (r .code ≡ 0 → SamePlan form r q p p′ l l′)
-  demand-unique {r} {q} {p} {p′} {l} {l′} x y = go (answer-right (deviceOf b) (b .items) u ok)
+  pub demand-unique : {r q : Assembly} {l′ l″ : AllLent E} → Is r l′ → Is q l″
+      → (r .code ≡ q .code) × (r .fewest ≡ q .fewest) × (r .code ≡ 0 → SamePlan form r q (l′ .room) (l″ .room))
+  demand-unique {r} {q} {l′} {l″} x y = go (answer-right (deviceOf b) (b .items) u ok)
     where
       both : (k : ℕ) → r .code ≡ k → q .code ≡ k → (k ≡ 0) ⊎ (k ≡ 11)
-          → (r .code ≡ q .code) × (r .fewest ≡ q .fewest) × (r .code ≡ 0 → SamePlan form r q p p′ l l′)
+          → (r .code ≡ q .code) × (r .fewest ≡ q .fewest) × (r .code ≡ 0 → SamePlan form r q (l′ .room) (l″ .room))
       both k e f z = (
         e ∙ sym f,
         numbers-unique (deviceOf b) (b .items) u (r .fewest) (q .fewest) (numbers-are x (subst (λ (c : ℕ). (c ≡ 0) ⊎ (c ≡ 11)) (sym e) z))
@@ -92,7 +91,7 @@ module _ {E : Type 0} (form : LegForm E) {book run table slots plan : List ℕ} 
       )
 
       go : {a : Answer} → Answers (deviceOf b) (b .items) u a
-          → (r .code ≡ q .code) × (r .fewest ≡ q .fewest) × (r .code ≡ 0 → SamePlan form r q p p′ l l′)
+          → (r .code ≡ q .code) × (r .fewest ≡ q .fewest) × (r .code ≡ 0 → SamePlan form r q (l′ .room) (l″ .room))
       go (no-history n e) = absurd (n (ready .path) (ready .history))
       go (no-chain h v n ns m e) = both 11 (x .no-chain .1 (b, (u, ready, n))) (y .no-chain .1 (b, (u, ready, n))) (inr refl)
       go (done h v xs c ns m e) = both 0 (x .gives-plan b u ready xs (c .chain)) (y .gives-plan b u ready xs (c .chain)) (inl refl)

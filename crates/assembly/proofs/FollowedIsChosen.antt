@@ -11,13 +11,13 @@ use Rattle.reversal.specs.Reversal.{Item}
 use Rattle.reversal.specs.Chains.{lower, planOf, legsOf}
 use Rattle.reversal.specs.Computed.Least.{Rule, Linked, total, leastAt, begins, chosen}
 use Rattle.reversal.proofs.Shortest.{chosen-linked, least-chain}
-use Rattle.assembly.specs.Fields.{Fields, FieldsOf}
+use Rattle.assembly.specs.Items.{Items, kOf, ItemsOf}
 use Rattle.assembly.specs.Rules.{Numbered}
 use Rattle.assembly.specs.ChainFollowed.{followed, Steps, planIn, legBytes, legsIn}
-use Rattle.assembly.specs.Assembles.{legsBytes}
+use Rattle.assembly.specs.Lent.{legsBytes}
 
 module _ (R : Rule) (sound : (a j : ℕ) → a < R .count → T (R .fit a j) → (0 < R .k a) × (R .k a ≤ j))
-    (F : Fields) (k : (a : ℕ) → a < R .count → F .k a ≡ R .k a) {i : ℕ} {fewest firsts : List ℕ} (num : Numbered R i fewest firsts) where
+    (F : Items) (k : (a : ℕ) → a < R .count → kOf F a ≡ R .k a) {i : ℕ} {fewest firsts : List ℕ} (num : Numbered R i fewest firsts) where
   pub followed-chosen : (f j : ℕ) → j ≤ f → j ≤ i → leastAt R j < R .top → (followed F firsts f j ≡ chosen R f j) × Steps F firsts f j
   unfolding followed Steps chosen
   followed-chosen zero zero l b h = (refl, refl)
@@ -41,10 +41,10 @@ module _ (R : Rule) (sound : (a j : ℕ) → a < R .count → T (R .fit a j) →
       fit : (0 < R .k a) × (R .k a ≤ suc j)
       fit = sound a (suc j) (linked .0 .0) (linked .0 .1)
 
-      down : F .k (getD firsts (suc j) 0) ≡ R .k a
-      down = ap (F .k) e ∙ k a (linked .0 .0)
+      down : kOf F (getD firsts (suc j) 0) ≡ R .k a
+      down = ap (kOf F) e ∙ k a (linked .0 .0)
 
-      low : suc j - F .k (getD firsts (suc j) 0) ≡ suc j - R .k a
+      low : suc j - kOf F (getD firsts (suc j) 0) ≡ suc j - R .k a
       low = ap (λ (x : ℕ). suc j - x) down
 
       least : leastAt R (suc j - R .k a) < R .top
@@ -56,15 +56,15 @@ linked-known R [] j c = tt
 linked-known R (a ∷ xs) j c = (c .0, linked-known R xs (j - R .k a) (c .2))
 
 -- ---- what is written is the chain's
-module _ (items : List Item) (F : Fields) (fields : FieldsOf items F) where
+module _ (items : List Item) (F : Items) (fields : ItemsOf items F) where
   pub plan-same : (xs : List ℕ) → Each (λ a. a < length items) xs → planIn F xs ≡ planOf items xs
   unfolding planIn
   plan-same [] c = refl
-  plan-same (a ∷ xs) c = ap₂ _++_ (fields .reverse-is a (c .0)) (plan-same xs (c .1))
+  plan-same (a ∷ xs) c = ap₂ _++_ (ap (λ (x : Item). x .reverse) (fields a (c .0))) (plan-same xs (c .1))
 
   pub legs-same : (xs : List ℕ) (j : ℕ) → Each (λ a. a < length items) xs → legsIn F j xs ≡ legsBytes (legsOf items j xs)
   unfolding legsIn legsBytes
   legs-same [] j c = refl
   legs-same (a ∷ xs) j c =
-      ap (λ (x : ℕ). legBytes a j (j - x) ++ legsIn F (j - x) xs) (fields .k-is a (c .0))
+      ap (λ (x : Item). legBytes a j (j - length (x .forward)) ++ legsIn F (j - length (x .forward)) xs) (fields a (c .0))
       ∙ ap (λ (t : List ℕ). legBytes a j (lower items j a) ++ t) (legs-same xs (lower items j a) (c .1))

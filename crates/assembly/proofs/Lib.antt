@@ -6,7 +6,6 @@ pub mod ChainWritten
 pub mod RulesAgree
 pub mod ItemsFit
 pub mod FollowedIsChosen
-pub mod SlotsOfBook
 pub mod AnswerReached
 pub mod Room
 pub mod WaysOfAssemble

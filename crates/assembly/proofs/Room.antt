@@ -1,40 +1,29 @@
--- Room in plan and legs: where one is short, and where both are long enough. Assumes nothing.
-use mathlib.Core.Path.{_≡_, refl, sym, ap}
-use mathlib.Core.Logic.{inl, inr}
+-- The test of the lengths: where a buffer is short, where none is, and where those that assembling writes are not. Assumes nothing.
+use mathlib.Core.Path.{_≡_, refl, sym, ap, _∙_}
+use mathlib.Core.Bool.{Bool, true}
 use mathlib.Core.List.{List}
-use Prim.Native.Nat.{ℕ, _*_, _≤_, _<_}
-use native.Mathlib.Decide.{decLt}
-use native.Mathlib.Omega.{arith}
-use lib.ListN.{length}
+use Prim.Native.Nat.{ℕ}
 use Rattle.base.specs.Tests.{pick}
-use Rattle.base.specs.Compare.{less}
-use Rattle.base.proofs.Picks.{less-yes, less-no}
-use Rattle.assembly.specs.Assembles.{LegForm, Room}
-use Rattle.assembly.specs.Contract.{RoomShort, roomBy}
+use Rattle.base.specs.Sizes.{LongEnough}
+use Rattle.base.specs.Shorter.{anyShort}
+use Rattle.base.proofs.Picks.{yes, no}
+use Rattle.base.proofs.Sizes.{short-after, long-off}
+use Rattle.book.specs.Book.{Book}
+use Rattle.book.specs.Lent.{sizes}
+use Rattle.reader.specs.Contract.{readBy}
+use Rattle.reader.proofs.Answers.{tested-again}
+use Rattle.assembly.specs.Lent.{LegForm, AllLent, roomSizes, allSizes}
 
-module _ {A E : Type 0} (form : LegForm E) (plan : List ℕ) (legs : List E) (refuse fine : A) where
-  pub plan-short : length plan < 256 → refuse ≡ roomBy form plan legs refuse fine
-  unfolding roomBy
-  plan-short h = less-yes refuse refuse _ (length plan) 256 h refl
+module _ {A E : Type 0} (form : LegForm E) (l : AllLent E) where
+  pub some-short : anyShort (allSizes form l) ≡ true → (refuse fine : A) → pick (anyShort (allSizes form l)) refuse fine ≡ refuse
+  some-short h refuse fine = sym (yes _ refuse fine _ h refl)
 
-  pub legs-short : 256 ≤ length plan → length legs < 32 * form .width → refuse ≡ roomBy form plan legs refuse fine
-  unfolding roomBy
-  legs-short l h = less-no refuse refuse _ (length plan) 256 l (less-yes refuse refuse fine (length legs) (32 * form .width) h refl)
+  pub all-long : LongEnough (allSizes form l) → (refuse fine : A) → pick (anyShort (allSizes form l)) refuse fine ≡ fine
+  all-long h refuse fine = sym (no _ refuse fine _ (long-off (allSizes form l) h) refl)
 
-  -- whichever is short
-  pub either-short : RoomShort form plan legs → refuse ≡ roomBy form plan legs refuse fine
-  either-short (inl h) = plan-short h
-  either-short (inr k) = go (decLt (length plan) 256)
-    where
-      go : Dec (length plan < 256) → refuse ≡ roomBy form plan legs refuse fine
-      go (yes h) = plan-short h
-      go (no h) = legs-short (omega arith) k
-
-  -- where there are legs enough, the plan decides
-  pub legs-enough : 32 * form .width ≤ length legs → roomBy form plan legs refuse fine ≡ pick (less (length plan) 256) refuse fine
-  unfolding roomBy
-  legs-enough l = ap (pick (less (length plan) 256) refuse) (sym (less-no fine refuse fine (length legs) (32 * form .width) l refl))
-
-  pub room-enough : Room form plan legs → fine ≡ roomBy form plan legs refuse fine
-  unfolding roomBy
-  room-enough l = less-no fine refuse _ (length plan) 256 (l .0) (less-no fine refuse fine (length legs) (32 * form .width) (l .1) refl)
+  -- reading tests its own
+  pub room-long : LongEnough (roomSizes form (l .room)) → (s : List ℕ) (refuse : ℕ → ℕ → A) (found : Book → A)
+      → pick (anyShort (allSizes form l)) (refuse 1 0) (readBy s (l .read) refuse found) ≡ readBy s (l .read) refuse found
+  room-long h s refuse found =
+      ap (λ (t : Bool). pick t (refuse 1 0) (readBy s (l .read) refuse found)) (short-after (roomSizes form (l .room)) (sizes (l .read)) h)
+      ∙ tested-again s (l .read) refuse found

@@ -5,16 +5,20 @@ use mathlib.Core.List.{List}
 use Prim.Native.Nat.{ℕ, _≤_, _<_}
 use native.Mathlib.Omega.{arith}
 use lib.ListN.{length, getD}
-use lib.Seq.{sets}
 use Rattle.base.specs.Lists.{Bytes}
+use Rattle.base.specs.Sizes.{LongEnough}
+use Rattle.base.specs.Shorter.{anyShort}
 use Rattle.base.proofs.Picks as picks
 use Rattle.base.proofs.Lists.{each-at}
 use Rattle.reversal.specs.Device.{Device, tabled}
-use Rattle.reversal.specs.Reversal.{AllowedItem}
+use Rattle.reversal.specs.Reversal.{Item, AllowedItem}
 use Rattle.reversal.specs.Runs.{AllowedRun, last}
 use Rattle.reversal.specs.Chains.{absent, none}
 use Rattle.reversal.specs.Answers.{Allowed, Answer}
 use Rattle.book.specs.Book.{Book, deviceOf}
+use Rattle.book.specs.Lent.{Lent}
+use Rattle.book.specs.Slots.{itemAt}
+use Rattle.book.proofs.Slots.{slot-holds}
 use Rattle.book.proofs.Device.{device-proper, tabled-device}
 use Rattle.reader.specs.declared.Reading.{Reading}
 use Rattle.checker.specs.Contract.{checkBy, CheckAs}
@@ -25,65 +29,63 @@ use Rattle.runs.proofs.Formed.{run-value}
 use Rattle.assembly.specs.declared.Assembly.{Assembly}
 use Rattle.assembly.specs.declared.chain.Counts.{Counts}
 use Rattle.assembly.specs.Believed.{Believed}
-use Rattle.assembly.specs.Fields.{FieldsOf, inSlots}
+use Rattle.assembly.specs.Items.{ItemsOf}
 use Rattle.assembly.specs.Rules.{ruleOf, Moving, Numbered}
 use Rattle.assembly.specs.ChainFollowed.{Walkable, Walked}
-use Rattle.assembly.specs.Assembles.{refusal, resultOf, legsBytes, inBytes, Room}
-use Rattle.assembly.specs.Contract.{answerOf, plannedBy, roomBy, assembleBy, AssembleAs}
-use Rattle.assembly.proofs.Room.{room-enough}
-use Rattle.assembly.proofs.SlotsOfBook.{slots-hold}
+use Rattle.assembly.specs.Lent.{inBytes, Room, AllLent, roomSizes, allSizes}
+use Rattle.assembly.specs.Assembles.{refusal, resultOf}
+use Rattle.assembly.specs.Contract.{answerOf, plannedBy, assembleBy, roomOf, AssembleAs}
+use Rattle.assembly.proofs.Room.{some-short, room-long}
 use Rattle.assembly.proofs.AnswerReached as reached
 use Rattle.assembly.proofs.AnswerReached.{Stored}
 
 -- ---- a short buffer
-module _ {book run t d plan legs : List ℕ} (bytes : Bytes book) (run-bytes : Bytes run)
-    (short : (A : Type 0) (refuse fine : A) → refuse ≡ roomBy inBytes plan legs refuse fine) where
-  pub room-refused : {r : Assembly} → r ≡ refusal 1 0 → AssembleAs inBytes book run t d plan legs r t d plan legs
+module _ {book run : List ℕ} {l : AllLent ℕ} (bytes : Bytes book) (run-bytes : Bytes run) (short : anyShort (allSizes inBytes l) ≡ true) where
+  pub short-refused : {r : Assembly} → r ≡ refusal 1 0 → AssembleAs inBytes book run l r l
   unfolding assembleBy
-  room-refused e =
+  short-refused e =
       record {
         bytes = bytes;
         run-bytes = run-bytes;
-        result = e ∙ short _ _ _;
-        table-is = short _ _ _;
-        slots-is = short _ _ _;
-        plan-is = short _ _ _;
-        legs-is = short _ _ _;
+        result = e ∙ sym (some-short inBytes l short _ _);
+        read-is = sym (some-short inBytes l short _ _);
+        room-is = sym (some-short inBytes l short _ _);
       }
 
 -- ---- after checking
-pub record Entered (book run t d plan legs : List ℕ) (f : Reading) (t′ d′ : List ℕ) : Type 0 where
-  pub check : CheckAs book t d f t′ d′
-  pub run-bytes : Bytes run
-  pub room : Room inBytes plan legs
 
-module _ {book run t d plan legs : List ℕ} {f : Reading} {t′ d′ : List ℕ} (h : Entered book run t d plan legs f t′ d′) where
-  abbrev c : CheckAs book t d f t′ d′
+-- the buffers at exit: `read` as checking leaves them, and plan and legs
+abbrev left : Lent → Room ℕ → AllLent ℕ
+left read room = record { read = read; room = room }
+
+pub record Entered (book run : List ℕ) (l : AllLent ℕ) (f : Reading) (read : Lent) : Type 0 where
+  pub check : CheckAs book (l .read) f read
+  pub run-bytes : Bytes run
+  pub long : LongEnough (roomSizes inBytes (l .room))
+
+module _ {book run : List ℕ} {l : AllLent ℕ} {f : Reading} {read : Lent} (h : Entered book run l f read) where
+  abbrev c : CheckAs book (l .read) f read
   c = h .check
 
-  -- where result, plan and legs are known, table and slots are as checking leaves them
-  module _ {r : Assembly} {plan′ legs′ : List ℕ} (result : r ≡ checkBy book t d refusal (plannedBy run refusal resultOf))
-      (plan-is : plan′ ≡ checkBy book t d (λ code place. plan) (plannedBy run (λ code place. plan) (λ a. sets plan 0 (a .plan-bytes))))
-      (legs-is : legs′ ≡ checkBy book t d (λ code place. legs) (plannedBy run (λ code place. legs) (λ a. sets legs 0 (legsBytes (a .plan-legs))))) where
-    after-check : AssembleAs inBytes book run t d plan legs r t′ d′ plan′ legs′
-    unfolding assembleBy
-    after-check =
-        record {
-          bytes = c .bytes;
-          run-bytes = h .run-bytes;
-          result = result ∙ room-enough inBytes plan legs _ _ (h .room);
-          table-is = c .table ∙ room-enough inBytes plan legs _ _ (h .room);
-          slots-is = c .slots ∙ room-enough inBytes plan legs _ _ (h .room);
-          plan-is = plan-is ∙ room-enough inBytes plan legs _ _ (h .room);
-          legs-is = legs-is ∙ room-enough inBytes plan legs _ _ (h .room);
-        }
+  after-check : {r : Assembly} {room : Room ℕ} → r ≡ checkBy book (l .read) refusal (plannedBy run refusal resultOf)
+      → room ≡ checkBy book (l .read) (λ code place. l .room) (plannedBy run (λ code place. l .room) (roomOf inBytes (l .room)))
+      → AssembleAs inBytes book run l r (left read room)
+  unfolding assembleBy checkBy
+  after-check result room-is =
+      record {
+        bytes = c .bytes;
+        run-bytes = h .run-bytes;
+        result = result ∙ sym (room-long inBytes l (h .long) book _ _);
+        read-is = c .buffers ∙ sym (room-long inBytes l (h .long) book _ _);
+        room-is = room-is ∙ sym (room-long inBytes l (h .long) book _ _);
+      }
 
-  pub not-accepted : (f .code ≡ 0 → ⊥) → {r : Assembly} → r ≡ refusal (f .code) (f .place) → AssembleAs inBytes book run t d plan legs r t′ d′ plan legs
-  not-accepted n e = after-check (e ∙ sym (unchecked-by c _ _ n)) (sym (unchecked-by c _ _ n)) (sym (unchecked-by c _ _ n))
+  pub not-accepted : (f .code ≡ 0 → ⊥) → {r : Assembly} → r ≡ refusal (f .code) (f .place) → AssembleAs inBytes book run l r (left read (l .room))
+  not-accepted n e = after-check (e ∙ sym (unchecked-by c _ _ n)) (sym (unchecked-by c _ _ n))
 
   -- the book is accepted
   module _ (z : f .code ≡ 0) where
-    abbrev g : BookChecked book t d f t′ d′
+    abbrev g : BookChecked book (l .read) f read
     g = book-checked c z
 
     abbrev b : Book
@@ -104,36 +106,35 @@ module _ {book run t d plan legs : List ℕ} {f : Reading} {t′ d′ : List ℕ
         let d = g .accepted .allowed .device in
         (omega (arith, n-is, d .n-high), omega (arith, m-is, d .m-high), omega (arith, items-is, g .accepted .allowed .few))
 
-    fields : FieldsOf (b .items) (inSlots d′)
-    fields = subst (λ (s : List ℕ). FieldsOf (b .items) (inSlots s)) (sym (g .slots)) (slots-hold b (g .accepted .allowed) d (g .long .1))
+    fields : ItemsOf (b .items) (itemAt (read .slots))
+    fields = subst (λ (x : Lent). ItemsOf (b .items) (itemAt (x .slots))) (sym (g .buffers)) (slot-holds b (l .read .slots) (g .accepted .allowed) (g .long .1 .0))
 
-    pub movable : Moving (inSlots d′) (f .items)
+    pub movable : Moving (itemAt (read .slots)) (f .items)
     movable a l =
         let known = subst (λ (n : ℕ). a < n) items-is l in
-        omega (arith, fields .k-is a known, each-at (AllowedItem (deviceOf b)) (b .items) (g .accepted .allowed .each-item) a absent known .some)
+        omega (arith, ap (λ (x : Item). length (x .forward)) (fields a known), each-at (AllowedItem (deviceOf b)) (b .items) (g .accepted .allowed .each-item) a absent known .some)
 
-    device-is : tabled (f .n) (f .m) t′ ≡ deviceOf b
+    device-is : tabled (f .n) (f .m) (read .table) ≡ deviceOf b
     device-is =
-        ap (λ (x : Reading). tabled (x .n) (x .m) t′) (g .result) ∙ ap (tabled (b .n) (b .m)) (g .table)
-        ∙ tabled-device b t (g .accepted .allowed) (g .long .0)
+        ap (λ (x : Reading). tabled (x .n) (x .m) (read .table)) (g .result) ∙ ap (λ (x : Lent). tabled (b .n) (b .m) (x .table)) (g .buffers)
+        ∙ tabled-device b (l .read .table) (g .accepted .allowed) (g .long .0)
 
     faulty-is : runFaulty (b .n) (b .m) run ≡ runFaulty (f .n) (f .m) run
     faulty-is = ap₂ (λ (n m : ℕ). runFaulty n m run) (sym n-is) (sym m-is)
 
-    pub run-refused : runFaulty (f .n) (f .m) run ≡ true → {r : Assembly} → r ≡ refusal 9 0 → AssembleAs inBytes book run t d plan legs r t′ d′ plan legs
+    pub run-refused : runFaulty (f .n) (f .m) run ≡ true → {r : Assembly} → r ≡ refusal 9 0 → AssembleAs inBytes book run l r (left read (l .room))
     run-refused e p =
         let y = faulty-is ∙ e in
         after-check (picks.yes _ _ _ _ y p ∙ sym (checked-by c _ _ g)) (picks.yes _ _ _ _ y refl ∙ sym (checked-by c _ _ g))
-        (picks.yes _ _ _ _ y refl ∙ sym (checked-by c _ _ g))
 
 -- ---- the book is accepted and the run is fine
-pub record FineRun (book run t d plan legs : List ℕ) (f : Reading) (t′ d′ : List ℕ) : Type 0 where
-  pub entered : Entered book run t d plan legs f t′ d′
+pub record FineRun (book run : List ℕ) (l : AllLent ℕ) (f : Reading) (read : Lent) : Type 0 where
+  pub entered : Entered book run l f read
   pub accepted : f .code ≡ 0
   pub fine : runFaulty (f .n) (f .m) run ≡ false
 
-module _ {book run t d plan legs : List ℕ} {f : Reading} {t′ d′ : List ℕ} (w : FineRun book run t d plan legs f t′ d′) where
-  abbrev h : Entered book run t d plan legs f t′ d′
+module _ {book run : List ℕ} {l : AllLent ℕ} {f : Reading} {read : Lent} (w : FineRun book run l f read) where
+  abbrev h : Entered book run l f read
   h = w .entered
 
   abbrev z : f .code ≡ 0
@@ -155,63 +156,62 @@ module _ {book run t d plan legs : List ℕ} {f : Reading} {t′ d′ : List ℕ
   low = omega (arith, last-is run, run-ok .short)
 
   -- with the answer stored
-  module _ {r : Assembly} {plan′ legs′ : List ℕ} (s : Stored (answerOf B run) plan legs r plan′ legs′) where
-    planned : {A : Type 0} (refuse : ℕ → ℕ → A) (done : Answer → A) → done (answerOf B run) ≡ checkBy book t d refuse (plannedBy run refuse done)
+  module _ {r : Assembly} {room : Room ℕ} (s : Stored (answerOf B run) (l .room) r room) where
+    planned : {A : Type 0} (refuse : ℕ → ℕ → A) (done : Answer → A) → done (answerOf B run) ≡ checkBy book (l .read) refuse (plannedBy run refuse done)
     planned refuse done =
         picks.no (done (answerOf B run)) (refuse 9 0) (done (answerOf B run)) (runFaulty (B .n) (B .m) run) fine refl
         ∙ sym (checked-by (c h) _ _ (g h z))
 
-    answered : AssembleAs inBytes book run t d plan legs r t′ d′ plan′ legs′
+    answered : AssembleAs inBytes book run l r (left read room)
     answered =
-        after-check h (s .result-is ∙ planned refusal resultOf) (s .plan-is ∙ planned (λ code place. plan) (λ a. sets plan 0 (a .plan-bytes)))
-        (s .legs-is ∙ planned (λ code place. legs) (λ a. sets legs 0 (legsBytes (a .plan-legs))))
+        after-check h (s .result-is ∙ planned refusal resultOf) (s .room-is ∙ planned (λ code place. l .room) (roomOf inBytes (l .room)))
 
-  module _ {beliefs : List ℕ} (believed : Believed (tabled (f .n) (f .m) t′) (runOf run) beliefs) where
+  module _ {beliefs : List ℕ} (believed : Believed (tabled (f .n) (f .m) (read .table)) (runOf run) beliefs) where
     held : Believed (deviceOf B) (runOf run) beliefs
     held = subst (λ (v : Device). Believed v (runOf run) beliefs) (device-is h z) believed
 
-    pub no-state : getD beliefs 0 0 ≡ 0 → {r : Assembly} → r ≡ refusal 10 0 → AssembleAs inBytes book run t d plan legs r t′ d′ plan legs
-    no-state s p = answered (reached.no-state (deviceOf B) (B .items) run allowed (inSlots d′) (fields h z) beliefs held plan legs s p)
+    pub no-state : getD beliefs 0 0 ≡ 0 → {r : Assembly} → r ≡ refusal 10 0 → AssembleAs inBytes book run l r (left read (l .room))
+    no-state s p = answered (reached.no-state (deviceOf B) (B .items) run allowed (itemAt (read .slots)) (fields h z) beliefs held (l .room) s p)
 
 -- ---- some state is possible and the numbers are known
-pub record NumbersKnown (beliefs : List ℕ) (i : ℕ) (fewest firsts : List ℕ) (book run t d plan legs : List ℕ) (f : Reading) (t′ d′ : List ℕ) : Type 0 where
-  pub fine-run : FineRun book run t d plan legs f t′ d′
-  pub believed : Believed (tabled (f .n) (f .m) t′) (runOf run) beliefs
+pub record NumbersKnown (beliefs : List ℕ) (i : ℕ) (fewest firsts : List ℕ) (book run : List ℕ) (l : AllLent ℕ) (f : Reading) (read : Lent) : Type 0 where
+  pub fine-run : FineRun book run l f read
+  pub believed : Believed (tabled (f .n) (f .m) (read .table)) (runOf run) beliefs
   pub some : getD beliefs 0 0 ≡ 0 → ⊥
   pub last-point : i ≡ lastOf run
-  pub num : Numbered (ruleOf (inSlots d′) run beliefs (f .items)) i fewest firsts
+  pub num : Numbered (ruleOf (itemAt (read .slots)) run beliefs (f .items)) i fewest firsts
 
-module _ {beliefs : List ℕ} {i : ℕ} {fewest firsts book run t d plan legs : List ℕ} {f : Reading} {t′ d′ : List ℕ}
-    (k : NumbersKnown beliefs i fewest firsts book run t d plan legs f t′ d′) where
-  abbrev w : FineRun book run t d plan legs f t′ d′
+module _ {beliefs : List ℕ} {i : ℕ} {fewest firsts book run : List ℕ} {l : AllLent ℕ} {f : Reading} {read : Lent}
+    (k : NumbersKnown beliefs i fewest firsts book run l f read) where
+  abbrev w : FineRun book run l f read
   w = k .fine-run
 
   i-is : i ≡ last (runOf run)
   i-is = k .last-point ∙ last-is run
 
-  num′ : Numbered (ruleOf (inSlots d′) run beliefs (length (B w .items))) (last (runOf run)) fewest firsts
-  num′ = subst₂ (λ (n j : ℕ). Numbered (ruleOf (inSlots d′) run beliefs n) j fewest firsts) (items-is (h w) (z w)) i-is (k .num)
+  num′ : Numbered (ruleOf (itemAt (read .slots)) run beliefs (length (B w .items))) (last (runOf run)) fewest firsts
+  num′ = subst₂ (λ (n j : ℕ). Numbered (ruleOf (itemAt (read .slots)) run beliefs n) j fewest firsts) (items-is (h w) (z w)) i-is (k .num)
 
   number-is : getD fewest i 0 ≡ getD fewest (last (runOf run)) 0
   number-is = ap (λ (j : ℕ). getD fewest j 0) i-is
 
   pub no-number : getD fewest i 0 ≡ none
-      → AssembleAs inBytes book run t d plan legs (record { code = 11; place = 0; commands = 0; legs = 0; fewest = fewest }) t′ d′ plan legs
+      → AssembleAs inBytes book run l (record { code = 11; place = 0; commands = 0; legs = 0; fewest = fewest }) (left read (l .room))
   no-number s =
       answered w
-      (reached.no-chain (deviceOf (B w)) (B w .items) run (allowed w) (inSlots d′) (fields (h w) (z w)) beliefs (held w (k .believed)) plan legs (k .some) num′
+      (reached.no-chain (deviceOf (B w)) (B w .items) run (allowed w) (itemAt (read .slots)) (fields (h w) (z w)) beliefs (held w (k .believed)) (l .room) (k .some) num′
       (sym number-is ∙ s))
 
   module _ (number : getD fewest i 0 ≡ none → ⊥) where
-    pub can-walk : Walkable (inSlots d′) firsts i
+    pub can-walk : Walkable (itemAt (read .slots)) firsts i
     can-walk =
-        subst (Walkable (inSlots d′) firsts) (sym i-is)
-        (reached.walkable (deviceOf (B w)) (B w .items) run (allowed w) (inSlots d′) (fields (h w) (z w)) beliefs (held w (k .believed)) plan legs (k .some) num′
+        subst (Walkable (itemAt (read .slots)) firsts) (sym i-is)
+        (reached.walkable (deviceOf (B w)) (B w .items) run (allowed w) (itemAt (read .slots)) (fields (h w) (z w)) beliefs (held w (k .believed)) (l .room) (k .some) num′
         (λ e. number (number-is ∙ e)))
 
-    pub written : {counts : Counts} {plan′ legs′ : List ℕ} → Walked (inSlots d′) firsts i plan legs counts plan′ legs′
-        → AssembleAs inBytes book run t d plan legs (record { code = 0; place = 0; commands = counts .commands; legs = counts .legs; fewest = fewest }) t′ d′ plan′ legs′
-    written {counts} {plan′} {legs′} x =
+    pub written : {counts : Counts} {room : Room ℕ} → Walked (itemAt (read .slots)) firsts i (l .room .plan) (l .room .legs) counts (room .plan) (room .legs)
+        → AssembleAs inBytes book run l (record { code = 0; place = 0; commands = counts .commands; legs = counts .legs; fewest = fewest }) (left read room)
+    written {counts} {room} x =
         answered w
-        (reached.chain-stored (deviceOf (B w)) (B w .items) run (allowed w) (inSlots d′) (fields (h w) (z w)) beliefs (held w (k .believed)) plan legs (k .some) num′
-        (λ e. number (number-is ∙ e)) (subst (λ (j : ℕ). Walked (inSlots d′) firsts j plan legs counts plan′ legs′) i-is x))
+        (reached.chain-stored (deviceOf (B w)) (B w .items) run (allowed w) (itemAt (read .slots)) (fields (h w) (z w)) beliefs (held w (k .believed)) (l .room) (k .some) num′
+        (λ e. number (number-is ∙ e)) (subst (λ (j : ℕ). Walked (itemAt (read .slots)) firsts j (l .room .plan) (l .room .legs) counts (room .plan) (room .legs)) i-is x))

@@ -4,20 +4,20 @@ use mathlib.Core.List.{List, [], _∷_}
 use lib.ListN.{replicate}
 use Prim.Native.Nat.{ℕ}
 use Rattle.base.specs.Lists.{Written}
+use Rattle.base.specs.Sizes.{LongEnough}
 use Rattle.reversal.specs.Runs.{Run}
 use Rattle.reversal.specs.Answers.{Answer, refused}
 use Rattle.reversal.specs.Twelve.{run, leg, found}
 use Rattle.book.specs.Example.{bytesQ}
-use Rattle.reader.specs.Reads.{Long}
 use Rattle.runs.specs.RunBytes.{runBytes}
 use Rattle.assembly.specs.declared.Assembly.{Assembly}
-use Rattle.assembly.specs.Assembles.{LegForm, inBytes, Room, Left, Assembles}
+use Rattle.assembly.specs.Lent.{LegForm, inBytes, AllLent, allSizes}
+use Rattle.assembly.specs.Assembles.{Left, Assembles}
 
 -- in buffers that are long enough, with Q's book
 pub record BytesGive {E : Type 0} (form : LegForm E) (u : Run) (a : Answer) : Type 0 where
-  pub left : {table slots plan : List ℕ} {legs : List E} {r : Assembly} {table′ slots′ plan′ : List ℕ} {legs′ : List E}
-      → Assembles form bytesQ (runBytes u) table slots plan legs r table′ slots′ plan′ legs′ → Room form plan legs → Long table slots
-      → Left form a plan legs r plan′ legs′
+  pub left : {l : AllLent E} {r : Assembly} {l′ : AllLent E} → Assembles form bytesQ (runBytes u) l r l′ → LongEnough (allSizes form l)
+      → Left form a (l .room) r (l′ .room)
 
 pub record Runs {E : Type 0} (form : LegForm E) : Type 0 where
   pub q5 : BytesGive form (run (2 ∷ 1 ∷ []) (7 ∷ 7 ∷ 7 ∷ [])) (found (0 ∷ []) (leg 2 2 0 ∷ []) 1 1 (0 ∷ 1 ∷ 1 ∷ []) 30)
@@ -31,9 +31,8 @@ pub record Runs {E : Type 0} (form : LegForm E) : Type 0 where
 
 -- the leg bytes: item number, upper point, lower point
 pub record LegBytes (u : Run) (bytes : List ℕ) : Type 0 where
-  pub written : {table slots plan legs : List ℕ} {r : Assembly} {table′ slots′ plan′ legs′ : List ℕ}
-      → Assembles inBytes bytesQ (runBytes u) table slots plan legs r table′ slots′ plan′ legs′ → Room inBytes plan legs → Long table slots
-      → Written bytes legs legs′
+  pub written : {l : AllLent ℕ} {r : Assembly} {l′ : AllLent ℕ} → Assembles inBytes bytesQ (runBytes u) l r l′ → LongEnough (allSizes inBytes l)
+      → Written bytes (l .room .legs) (l′ .room .legs)
 
 pub record LegRuns : Type 0 where
   pub q5 : LegBytes (run (2 ∷ 1 ∷ []) (7 ∷ 7 ∷ 7 ∷ [])) (2 ∷ 2 ∷ 0 ∷ [])

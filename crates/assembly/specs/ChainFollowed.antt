@@ -1,51 +1,51 @@
--- Following the items from a point down: the chain, its plan and its legs, of the items' fields and the item that each point names.
+-- Following the items from a point down: the chain, its plan and its legs, of the items by number and the item that each point names.
 -- proofs/FollowedIsChosen ties them to the chosen chain. Assumes nothing: these are definitions.
 use mathlib.Core.Path.{_≡_}
 use mathlib.Core.List.{List, [], _∷_, _++_}
 use Prim.Native.Nat.{ℕ, zero, suc, _-_, _≤_, _<_}
 use lib.ListN.{getD, length}
 use lib.Seq.{sets}
-use Rattle.assembly.specs.Fields.{Fields}
+use Rattle.assembly.specs.Items.{Items, kOf}
 use Rattle.assembly.specs.declared.chain.Counts.{Counts}
 
 -- the items from point j down, at most f of them
-unfoldable pub followed : Fields → List ℕ → ℕ → ℕ → List ℕ
+unfoldable pub followed : Items → List ℕ → ℕ → ℕ → List ℕ
 followed F items zero j = []
 followed F items (suc f) zero = []
-followed F items (suc f) (suc j) = getD items (suc j) 0 ∷ followed F items f (suc j - F .k (getD items (suc j) 0))
+followed F items (suc f) (suc j) = getD items (suc j) 0 ∷ followed F items f (suc j - kOf F (getD items (suc j) 0))
 
 -- each of them goes down, and not below 0
-unfoldable pub Steps : Fields → List ℕ → ℕ → ℕ → Type 0
+unfoldable pub Steps : Items → List ℕ → ℕ → ℕ → Type 0
 Steps F items zero j = j ≡ 0
 Steps F items (suc f) zero = Unit {0}
 Steps F items (suc f) (suc j) =
-    (1 ≤ F .k (getD items (suc j) 0)) × (F .k (getD items (suc j) 0) ≤ suc j)
-    × Steps F items f (suc j - F .k (getD items (suc j) 0))
+    (1 ≤ kOf F (getD items (suc j) 0)) × (kOf F (getD items (suc j) 0) ≤ suc j)
+    × Steps F items f (suc j - kOf F (getD items (suc j) 0))
 
 -- their reverse commands
-unfoldable pub planIn : Fields → List ℕ → List ℕ
+unfoldable pub planIn : Items → List ℕ → List ℕ
 planIn F [] = []
-planIn F (a ∷ xs) = F .reverse a ++ planIn F xs
+planIn F (a ∷ xs) = F a .reverse ++ planIn F xs
 
 -- three bytes a leg: item number, upper point, lower point
 abbrev pub legBytes : ℕ → ℕ → ℕ → List ℕ
 legBytes a upper lower = a ∷ upper ∷ lower ∷ []
 
-unfoldable pub legsIn : Fields → ℕ → List ℕ → List ℕ
+unfoldable pub legsIn : Items → ℕ → List ℕ → List ℕ
 legsIn F j [] = []
-legsIn F j (a ∷ xs) = legBytes a j (j - F .k a) ++ legsIn F (j - F .k a) xs
+legsIn F j (a ∷ xs) = legBytes a j (j - kOf F a) ++ legsIn F (j - kOf F a) xs
 
 -- the chain from i, and what a walk down it asks
-abbrev pub walk : Fields → List ℕ → ℕ → List ℕ
+abbrev pub walk : Items → List ℕ → ℕ → List ℕ
 walk F items i = followed F items i i
 
-pub record Walkable (F : Fields) (items : List ℕ) (i : ℕ) : Type 0 where
+pub record Walkable (F : Items) (items : List ℕ) (i : ℕ) : Type 0 where
   pub low : i ≤ 32
   pub steps : Steps F items i i
   pub short : length (planIn F (walk F items i)) < 65536
 
 -- what the walk leaves and counts
-pub record Walked (F : Fields) (items : List ℕ) (i : ℕ) (plan legs : List ℕ) (r : Counts) (plan′ legs′ : List ℕ) : Type 0 where
+pub record Walked (F : Items) (items : List ℕ) (i : ℕ) (plan legs : List ℕ) (r : Counts) (plan′ legs′ : List ℕ) : Type 0 where
   pub plan-is : plan′ ≡ sets plan 0 (planIn F (walk F items i))
   pub legs-is : legs′ ≡ sets legs 0 (legsIn F i (walk F items i))
   pub commands-is : r .commands ≡ length (planIn F (walk F items i))

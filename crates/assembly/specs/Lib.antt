@@ -1,7 +1,8 @@
 pub mod Believed
-pub mod Fields
+pub mod Items
 pub mod Rules
 pub mod ChainFollowed
+pub mod Lent
 pub mod Assembles
 pub mod Contract
 pub mod Demand

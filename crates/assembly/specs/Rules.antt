@@ -1,4 +1,4 @@
--- Which item fits where, and the choice at a point, of the items' fields, the run's bytes and the belief states as the code has them. proofs/ItemsFit
+-- Which item fits where, and the choice at a point, of the items by number, the run's bytes and the belief states as the code has them. proofs/ItemsFit
 -- ties them to reversal's rule. Assumes nothing: these are definitions.
 use mathlib.Core.Path.{_≡_}
 use mathlib.Core.Bool.{Bool}
@@ -12,20 +12,20 @@ use Rattle.base.specs.Masks.{inside}
 use Rattle.reversal.specs.Chains.{none}
 use Rattle.reversal.specs.Computed.Least.{Rule, via, leasts, leastAt, begins}
 use Rattle.runs.specs.Computed.{commandOf}
-use Rattle.assembly.specs.Fields.{Fields}
+use Rattle.assembly.specs.Items.{Items, kOf}
 
 -- the first x forward commands of item a are the run's below point j
-unfoldable pub sameAt : Fields → List ℕ → ℕ → ℕ → ℕ → Bool
-sameAt F s a j x = all (λ y. eqb (F .forward a y) (commandOf s (j - F .k a + y))) x
+unfoldable pub sameAt : Items → List ℕ → ℕ → ℕ → ℕ → Bool
+sameAt F s a j x = all (λ y. eqb (getD (F a .forward) y 0) (commandOf s (j - kOf F a + y))) x
 
-unfoldable pub fitsAt : Fields → List ℕ → List ℕ → ℕ → ℕ → Bool
+unfoldable pub fitsAt : Items → List ℕ → List ℕ → ℕ → ℕ → Bool
 fitsAt F s sets a j =
-    both (leb (F .k a) j)
-    (both (sameAt F s a j (F .k a)) (both (inside (getD sets j 0) (F .phi a)) (inside (getD sets (j - F .k a) 0) (F .psi a))))
+    both (leb (kOf F a) j)
+    (both (sameAt F s a j (kOf F a)) (both (inside (getD sets j 0) (F a .phi)) (inside (getD sets (j - kOf F a) 0) (F a .psi))))
 
 -- the rule by the numbers of reverse commands
-abbrev pub ruleOf : Fields → List ℕ → List ℕ → ℕ → Rule
-ruleOf F s sets count = record { count = count; k = F .k; price = λ a. length (F .reverse a); fit = fitsAt F s sets; top = none }
+abbrev pub ruleOf : Items → List ℕ → List ℕ → ℕ → Rule
+ruleOf F s sets count = record { count = count; k = kOf F; price = λ a. length (F a .reverse); fit = fitsAt F s sets; top = none }
 
 -- of the first count items: the least number by way of one of them, and the lowest that has it
 pub record Chosen (R : Rule) (ns : List ℕ) (j count number item : ℕ) : Type 0 where
@@ -37,8 +37,8 @@ pub record Chosen (R : Rule) (ns : List ℕ) (j count number item : ℕ) : Type 
   pub lowest : number < R .top → (b : ℕ) → b < item → number < via R ns j b
 
 -- every item has a forward command
-abbrev pub Moving : Fields → ℕ → Type 0
-Moving F count = (a : ℕ) → a < count → 1 ≤ F .k a
+abbrev pub Moving : Items → ℕ → Type 0
+Moving F count = (a : ℕ) → a < count → 1 ≤ kOf F a
 
 -- the numbers of the points 0 to j, the rule's top above, and for each point that has one the lowest item that begins a chain with so few
 pub record Numbered (R : Rule) (j : ℕ) (numbers items : List ℕ) : Type 0 where

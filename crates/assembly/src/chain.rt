@@ -1,9 +1,8 @@
 // The chain from a point down, written as a plan and legs.
-use crate::slot;
 ghost use mathlib.Core.Path.{_≡_};
 ghost use Prim.Native.Nat.{_<_};
 ghost use lib.Seq.{sets};
-ghost use Rattle.assembly.specs.Fields.{inSlots};
+ghost use Rattle.book.specs.Slots.{itemAt};
 ghost use Rattle.assembly.specs.ChainFollowed.{legBytes, Walkable, Walked};
 
 // What was written.
@@ -30,19 +29,20 @@ pub(crate) fn write_chain(
     plan: &mut [u8],
     legs: &mut [u8],
 ) -> Counts
-    requires { ⌜ Walkable (inSlots (now slots)) (now items) i ⌝ }
-    ensures { λ r. ⌜ Walked (inSlots (now (slots .entry))) (now (items .entry)) i
+    requires { ⌜ Walkable (itemAt (now slots)) (now items) i ⌝ }
+    ensures { λ r. ⌜ Walked (itemAt (now (slots .entry))) (now (items .entry)) i
         (now (plan .entry)) (now (legs .entry)) r (now (plan .exit)) (now (legs .exit)) ⌝ }
 {
     let mut j = i;
     let mut commands: u64 = 0;
     let mut count: u64 = 0;
     while 0 < j {
-        let a = octets::byte_at(items, j as usize);
-        let k = slot::k(slots, a);
-        slot::put_reverse(slots, a, plan, commands as usize);
-        put_leg(legs, (3 * count) as usize, a, j, j - k);
-        commands = commands + slot::r(slots, a);
+        let a = octets::byte_at(items, j as usize) as u8;
+        let k = slots::k(slots, a);
+        let r = slots::r(slots, a);
+        slots::put_reverse(slots, a, r as usize, plan, commands as usize);
+        put_leg(legs, (3 * count) as usize, a as u64, j, j - k);
+        commands = commands + r;
         count = count + 1;
         j = j - k;
     }

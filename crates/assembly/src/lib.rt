@@ -2,13 +2,14 @@
 mod beliefs;
 mod chain;
 mod points;
-mod slot;
 
 use beliefs::beliefs;
 use chain::write_chain;
 use points::points_of;
 ghost use mathlib.Core.Path.{_≡_};
-ghost use Rattle.assembly.specs.Assembles.{refusal, inBytes};
+ghost use Rattle.book.specs.Lent.{lent};
+ghost use Rattle.assembly.specs.Lent.{inBytes, allLent};
+ghost use Rattle.assembly.specs.Assembles.{refusal};
 ghost use Rattle.assembly.specs.Contract.{AssembleAs};
 
 // What assembling answers: the code and its place; the numbers of commands and legs, each 0 on a refusal; the fewest commands for each of the 33
@@ -23,7 +24,7 @@ pub struct Assembly {
 }
 
 // A refusal, whose counts are 0 and whose numbers are all 65,535.
-fn refused(code: u64, place: u64) -> Assembly
+pub fn refused(code: u64, place: u64) -> Assembly
     ensures { λ r. ⌜ r ≡ refusal code place ⌝ }
 {
     Assembly {
@@ -45,8 +46,8 @@ pub fn assemble(
     legs: &mut [u8],
 ) -> Assembly
     ensures { λ r. ⌜ AssembleAs inBytes (now (book .entry)) (now (run .entry))
-        (now (table .entry)) (now (slots .entry)) (now (plan .entry)) (now (legs .entry)) r
-        (now (table .exit)) (now (slots .exit)) (now (plan .exit)) (now (legs .exit)) ⌝ }
+        (allLent (lent (now (table .entry)) (now (slots .entry))) (now (plan .entry)) (now (legs .entry))) r
+        (allLent (lent (now (table .exit)) (now (slots .exit))) (now (plan .exit)) (now (legs .exit))) ⌝ }
 {
     if plan.len() < 256 {
         return refused(1, 0);

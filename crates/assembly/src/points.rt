@@ -1,30 +1,29 @@
 // The fewest commands for each point of a run, and the item that begins a chain with so few.
-use crate::slot;
 use states::StateSet;
 ghost use mathlib.Core.Path.{_≡_};
 ghost use Prim.Native.Nat.{_≤_, _<_};
-ghost use Rattle.assembly.specs.Fields.{inSlots};
+ghost use Rattle.book.specs.Slots.{itemAt};
 ghost use Rattle.assembly.specs.Rules.{fitsAt, ruleOf, Chosen, Moving, Numbered};
 
 // Whether the item fits from point j, by the possible states at both ends.
-fn fits_at(slots: &[u8], a: u64, run: &[u8], sets: &[u64; 33], j: u64) -> bool
-    requires { ⌜ (a < 64) × (j ≤ 32) ⌝ }
-    ensures { λ r. ⌜ r ≡ fitsAt (inSlots (now (slots .entry))) (now (run .entry)) (now (sets .entry)) a j ⌝ }
+fn fits_at(slots: &[u8], a: u8, run: &[u8], sets: &[u64; 33], j: u64) -> bool
+    requires { ⌜ j ≤ 32 ⌝ }
+    ensures { λ r. ⌜ r ≡ fitsAt (itemAt (now (slots .entry))) (now (run .entry)) (now (sets .entry)) a j ⌝ }
 {
-    let k = slot::k(slots, a);
+    let k = slots::k(slots, a);
     if j < k {
         return false;
     }
     let low = j - k;
     for x in 0..k {
-        if slot::forward(slots, a, x) != runs::command_at(run, low + x) {
+        if slots::forward(slots, a, x as u8) != runs::command_at(run, low + x) {
             return false;
         }
     }
-    if !StateSet::of(sets[j as usize]).is_inside(slot::phi(slots, a)) {
+    if !StateSet::of(sets[j as usize]).is_inside(slots::phi(slots, a)) {
         return false;
     }
-    StateSet::of(sets[low as usize]).is_inside(slot::psi(slots, a))
+    StateSet::of(sets[low as usize]).is_inside(slots::psi(slots, a))
 }
 
 fn wide(x: u16) -> u64
@@ -36,28 +35,21 @@ fn wide(x: u16) -> u64
 // A number of commands, and the item that begins a chain with so many.
 pub struct Choice {
     pub number: u64,
-    pub item: u64,
+    pub item: u8,
 }
 
 // The fewest commands from point j by any item, with those of the points below it known; among equals the lowest item.
-fn best(
-    slots: &[u8],
-    count: u64,
-    run: &[u8],
-    sets: &[u64; 33],
-    fewest: &[u16; 33],
-    j: u64,
-) -> Choice
+fn best(slots: &[u8], count: u8, run: &[u8], sets: &[u64; 33], fewest: &[u16; 33], j: u64) -> Choice
     requires { ⌜ (count ≤ 64) × (j ≤ 32) ⌝ }
-    ensures { λ r. ⌜ Chosen (ruleOf (inSlots (now (slots .entry))) (now (run .entry)) (now (sets .entry)) count)
+    ensures { λ r. ⌜ Chosen (ruleOf (itemAt (now (slots .entry))) (now (run .entry)) (now (sets .entry)) count)
         (now (fewest .entry)) j count (r .number) (r .item) ⌝ }
 {
     let mut number: u64 = 65535;
-    let mut item: u64 = 0;
+    let mut item: u8 = 0;
     for a in 0..count {
         if fits_at(slots, a, run, sets, j) {
-            let low = j - slot::k(slots, a);
-            let sum = slot::r(slots, a) + wide(fewest[low as usize]);
+            let low = j - slots::k(slots, a);
+            let sum = slots::r(slots, a) + wide(fewest[low as usize]);
             if sum < number {
                 number = sum;
                 item = a;
@@ -78,17 +70,17 @@ pub struct Points {
 
 // The numbers from point 0 upward; each point tries each item once.
 pub(crate) fn points_of(slots: &[u8], count: u64, run: &[u8], sets: &[u64; 33], i: u64) -> Points
-    requires { ⌜ (count ≤ 64) × (i ≤ 32) × Moving (inSlots (now slots)) count ⌝ }
-    ensures { λ r. ⌜ Numbered (ruleOf (inSlots (now (slots .entry))) (now (run .entry)) (now (sets .entry)) count) i (r .fewest) (r .items) ⌝ }
+    requires { ⌜ (count ≤ 64) × (i ≤ 32) × Moving (itemAt (now slots)) count ⌝ }
+    ensures { λ r. ⌜ Numbered (ruleOf (itemAt (now (slots .entry))) (now (run .entry)) (now (sets .entry)) count) i (r .fewest) (r .items) ⌝ }
 {
     let mut fewest = [65535u16; 33];
     let mut items = [0u8; 33];
     fewest[0] = 0;
     let mut j: u64 = 0;
     while j < i {
-        let choice = best(slots, count, run, sets, &fewest, j + 1);
+        let choice = best(slots, count as u8, run, sets, &fewest, j + 1);
         fewest[j as usize + 1] = choice.number as u16;
-        items[j as usize + 1] = choice.item as u8;
+        items[j as usize + 1] = choice.item;
         j = j + 1;
     }
     Points {

@@ -16,12 +16,12 @@ use Rattle.book.specs.Limits.{deviceFine, moveFine, countsFine, allBelow
 use Rattle.book.proofs.Fields.{all-of, all-on, clear-of, clear-on}
 
 -- a test that must fail, and what is tested after it
-past : (t rest : Bool) → pick t false rest ≡ true → (t ≡ false) × (rest ≡ true)
+pub past : (t rest : Bool) → pick t false rest ≡ true → (t ≡ false) × (rest ≡ true)
 unfolding pick
 past true rest e = absurd (false≢true e)
 past false rest e = (refl, e)
 
-not-off : (t : Bool) → not t ≡ false → t ≡ true
+pub not-off : (t : Bool) → not t ≡ false → t ≡ true
 not-off true e = refl
 not-off false e = absurd (false≢true (sym e))
 

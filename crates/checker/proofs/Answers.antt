@@ -5,28 +5,29 @@ use Prim.Native.Nat.{ℕ, _≤_}
 use native.Mathlib.Omega.{arith}
 use Rattle.reversal.specs.Device.{tabled}
 use Rattle.book.specs.Book.{deviceOf, WellFormed}
+use Rattle.book.specs.Lent.{Lent}
 use Rattle.book.proofs.Device.{tabled-device}
 use Rattle.reader.specs.declared.Reading.{Reading}
 use Rattle.reader.specs.Reads.{refusal, done}
 use Rattle.reader.specs.Contract.{ReadAs}
-use Rattle.reader.proofs.Exactly.{BookRead, book-read, not-read, when-fine}
+use Rattle.reader.proofs.Answers.{when-fine}
+use Rattle.reader.proofs.Exactly.{BookRead, book-read, not-read}
 use Rattle.checker.specs.declared.Judgement.{Judgement}
 use Rattle.checker.specs.Contract.{Judged, onJudgement, judgedBy, checkBy, CheckAs}
 
-module _ {s t d : List ℕ} {r : Reading} {t′ d′ : List ℕ} (c : ReadAs s t d r t′ d′) where
+module _ {s : List ℕ} {l : Lent} {r : Reading} {l′ : Lent} (c : ReadAs s l r l′) where
   -- reading refuses
-  pub passed-on : (r .code ≡ 0 → ⊥) → CheckAs s t d r t′ d′
+  pub passed-on : (r .code ≡ 0 → ⊥) → CheckAs s l r l′
   unfolding checkBy
   passed-on n =
       record {
         bytes = c .bytes;
         result = c .result ∙ not-read c n refusal done (judgedBy refusal done);
-        table = c .table;
-        slots = c .slots;
+        buffers = c .buffers;
       }
 
   module _ (e : r .code ≡ 0) where
-    abbrev g : BookRead s t d r t′ d′
+    abbrev g : BookRead s l r l′
     g = book-read c e
 
     -- what the judgement asks
@@ -37,12 +38,12 @@ module _ {s t d : List ℕ} {r : Reading} {t′ d′ : List ℕ} (c : ReadAs s t
       (g .book, g .allowed, g .bytes),
     )
 
-    device : tabled (r .n) (r .m) t′ ≡ deviceOf (g .book)
+    device : tabled (r .n) (r .m) (l′ .table) ≡ deviceOf (g .book)
     device =
-        ap₂ (λ (x : Reading) (y : List ℕ). tabled (x .n) (x .m) y) (g .result) (g .table) ∙ tabled-device (g .book) t (g .allowed) (g .long .0)
+        ap₂ (λ (x : Reading) (y : Lent). tabled (x .n) (x .m) (y .table)) (g .result) (g .buffers) ∙ tabled-device (g .book) (l .table) (g .allowed) (g .long .0)
 
     -- what it answers is the answer
-    pub judged : (j : Judgement) → Judged s (tabled (r .n) (r .m) t′) j → (x : Reading) → x ≡ onJudgement j refusal r → CheckAs s t d x t′ d′
+    pub judged : (j : Judgement) → Judged s (tabled (r .n) (r .m) (l′ .table)) j → (x : Reading) → x ≡ onJudgement j refusal r → CheckAs s l x l′
     unfolding checkBy
     judged j h x q =
         record {
@@ -50,7 +51,6 @@ module _ {s t d : List ℕ} {r : Reading} {t′ d′ : List ℕ} (c : ReadAs s t
           result =
               q
               ∙ ap₂ (λ (y : Judgement) (z : Reading). onJudgement y refusal z) (h (g .book) (g .allowed) (g .bytes) device) (g .result)
-              ∙ sym (when-fine s t d refusal (judgedBy refusal done) (g .long) (g .book) (g .parsed));
-          table = c .table;
-          slots = c .slots;
+              ∙ sym (when-fine s l refusal (judgedBy refusal done) (g .long) (g .book) (g .parsed));
+          buffers = c .buffers;
         }

@@ -1,6 +1,7 @@
 -- The contract of checking gives what 01 says; the first item that the test turns down is the first that is no conditional reverse plan by
 -- trajectories. Assumes nothing.
-use mathlib.Core.Path.{_≡_, refl, sym, ap, _∙_, subst}
+use mathlib.Core.Path.{_≡_, ap, _∙_}
+use mathlib.Core.Bool.{true}
 use mathlib.Core.Logic.{_↔_}
 use mathlib.Core.List.{List}
 use Prim.Native.Nat.{ℕ, _≤_, _<_}
@@ -9,28 +10,29 @@ use native.Mathlib.Decide.{decLt}
 use lib.Dec.{T}
 use lib.ListN.{length}
 use Rattle.base.specs.Lists.{Each}
+use Rattle.base.specs.Sizes.{LongEnough}
+use Rattle.base.specs.Shorter.{anyShort}
 use Rattle.base.proofs.Lists.{each-at, each-of}
 use Rattle.base.proofs.Tests.{T-true, true-T}
+use Rattle.base.proofs.Sizes.{on-short}
 use Rattle.base.proofs.Lowest.{Tells, fails, lowest-wrong, none-wrong as none-lowest, wrong-none}
 use Rattle.reversal.specs.Reversal.{AllowedItem, Accepted}
 use Rattle.reversal.specs.Chains.{absent, item}
 use Rattle.reversal.specs.Computed.Sets.{accepts}
 use Rattle.reversal.proofs.Reversals.{accepts↔}
 use Rattle.book.specs.Book.{Book, deviceOf, AllowedBook, bytesOf}
-use Rattle.book.specs.Lent.{TableRead, SlotsRead}
+use Rattle.book.specs.Lent.{Lent, sizes}
 use Rattle.book.specs.Parse.{parse}
 use Rattle.book.specs.Parse.Parsed.{Ok, Refused}
 use Rattle.book.proofs.Device.{device-proper}
 use Rattle.book.proofs.Reading.{parse-fine}
 use Rattle.book.proofs.Refused.{refused-exactly}
 use Rattle.book.proofs.Codes.{refusal-codes}
-use Rattle.book.proofs.Table.{table-read}
-use Rattle.book.proofs.Slots.{slots-read}
 use Rattle.reader.specs.declared.Reading.{Reading}
-use Rattle.reader.specs.Reads.{refusal, done, Long, Kept, Filled}
+use Rattle.reader.specs.Reads.{refusal, done}
 use Rattle.reader.specs.Reads as reads
-use Rattle.reader.specs.Contract.{Short}
-use Rattle.reader.proofs.Exactly.{Way, by-short, by-fault, by-book, way, when-short, when-faulty, when-fine, not-both}
+use Rattle.reader.proofs.Answers.{Way, by-short, by-fault, by-book, way, when-short, when-faulty, when-fine}
+use Rattle.reader.proofs.Exactly.{filled}
 use Rattle.checker.specs.declared.Judgement.{Judgement}
 use Rattle.checker.specs.Checks.{placeOf, FirstWrong, Checks, unread, wrong, fine}
 use Rattle.checker.specs.Contract.{wrongItem, judgementOf, onJudgement, judgedBy, checkBy, CheckAs}
@@ -71,60 +73,40 @@ module _ (b : Book) (a : AllowedBook b) where
   none-wrong e = wrong-none _ (length (b .items)) tells (λ i l. each-at (Accepted (deviceOf b)) (b .items) e i absent l)
 
 -- ---- the call
-module _ {s t d : List ℕ} {r : Reading} {t′ d′ : List ℕ} (c : CheckAs s t d r t′ d′) where
-  kept-short : Short t d → Kept t d t′ d′
-  kept-short h = record { table-same = c .table ∙ when-short s t d _ _ h; slots-same = c .slots ∙ when-short s t d _ _ h }
-
-  kept-faulty : Long t d → (code place : ℕ) → parse s ≡ Refused code place → Kept t d t′ d′
-  kept-faulty l code place e =
-      record {
-        table-same = c .table ∙ when-faulty s t d _ _ l code place e;
-        slots-same = c .slots ∙ when-faulty s t d _ _ l code place e;
-      }
-
-  pub filled : Long t d → (b : Book) → AllowedBook b → bytesOf b ≡ s → parse s ≡ Ok b → Filled s t d b t′ d′
-  filled l b a same e =
-      record {
-        long = l;
-        allowed = a;
-        bytes = same;
-        table-read = subst (TableRead b t) (sym (c .table ∙ when-fine s t d _ _ l b e)) (table-read b t a (l .0));
-        slots-read = subst (SlotsRead b d) (sym (c .slots ∙ when-fine s t d _ _ l b e)) (slots-read b d a (l .1));
-      }
-
-  pub result-short : Short t d → r ≡ refusal 1 0
+module _ {s : List ℕ} {l : Lent} {r : Reading} {l′ : Lent} (c : CheckAs s l r l′) where
+  pub result-short : anyShort (sizes l) ≡ true → r ≡ refusal 1 0
   unfolding checkBy
-  result-short h = c .result ∙ when-short s t d refusal (judgedBy refusal done) h
+  result-short h = c .result ∙ when-short s l refusal (judgedBy refusal done) h
 
-  pub result-faulty : Long t d → (code place : ℕ) → parse s ≡ Refused code place → r ≡ refusal code place
+  pub result-faulty : LongEnough (sizes l) → (code place : ℕ) → parse s ≡ Refused code place → r ≡ refusal code place
   unfolding checkBy
-  result-faulty l code place e = c .result ∙ when-faulty s t d refusal (judgedBy refusal done) l code place e
+  result-faulty k code place e = c .result ∙ when-faulty s l refusal (judgedBy refusal done) k code place e
 
-  result-book : Long t d → (b : Book) → parse s ≡ Ok b → r ≡ judgedBy refusal done b
+  result-book : LongEnough (sizes l) → (b : Book) → parse s ≡ Ok b → r ≡ judgedBy refusal done b
   unfolding checkBy
-  result-book l b e = c .result ∙ when-fine s t d refusal (judgedBy refusal done) l b e
+  result-book k b e = c .result ∙ when-fine s l refusal (judgedBy refusal done) k b e
 
-  pub result-wrong : Long t d → (b : Book) → parse s ≡ Ok b → wrongItem b < length (b .items) → r ≡ refusal 8 (placeOf b (wrongItem b))
-  result-wrong l b e h = result-book l b e ∙ by-wrong b h refusal (done b)
+  pub result-wrong : LongEnough (sizes l) → (b : Book) → parse s ≡ Ok b → wrongItem b < length (b .items) → r ≡ refusal 8 (placeOf b (wrongItem b))
+  result-wrong k b e h = result-book k b e ∙ by-wrong b h refusal (done b)
 
-  pub result-fine : Long t d → (b : Book) → parse s ≡ Ok b → length (b .items) ≤ wrongItem b → r ≡ done b
-  result-fine l b e h = result-book l b e ∙ by-none b h refusal (done b)
+  pub result-fine : LongEnough (sizes l) → (b : Book) → parse s ≡ Ok b → length (b .items) ≤ wrongItem b → r ≡ done b
+  result-fine k b e h = result-book k b e ∙ by-none b h refusal (done b)
 
-  pub checks : Checks s t d r t′ d′
-  checks = go (way s t d)
+  pub checks : Checks s l r l′
+  checks = go (way s l)
     where
       code-of : {x : Reading} → r ≡ x → r .code ≡ x .code
       code-of e = ap (λ (y : Reading). y .code) e
 
-      judged : Long t d → (b : Book) → parse s ≡ Ok b → AllowedBook b → bytesOf b ≡ s → Dec (wrongItem b < length (b .items)) → Checks s t d r t′ d′
-      judged l b e a same (yes h) = wrong b (filled l b a same e) (first-wrong b a h) (result-wrong l b e h)
-      judged l b e a same (no h) =
-          fine b (record { filled = filled l b a same e; accepted = all-accepted b a (omega arith) }) (result-fine l b e (omega arith))
+      judged : LongEnough (sizes l) → (b : Book) → parse s ≡ Ok b → AllowedBook b → bytesOf b ≡ s → Dec (wrongItem b < length (b .items)) → Checks s l r l′
+      judged k b e a same (yes h) = wrong b (filled (c .buffers) k b a same e) (first-wrong b a h) (result-wrong k b e h)
+      judged k b e a same (no h) =
+          fine b (record { filled = filled (c .buffers) k b a same e; accepted = all-accepted b a (omega arith) }) (result-fine k b e (omega arith))
 
-      go : Way s t d → Checks s t d r t′ d′
-      go (by-short h) = unread (reads.short (not-both t d h) (result-short h) (kept-short h)) (λ z. omega (arith, code-of (result-short h)))
-      go (by-fault l code place e) =
+      go : Way s l → Checks s l r l′
+      go (by-short h) = unread (reads.short (on-short (sizes l) h) (result-short h) (c .buffers ∙ when-short s l _ _ h)) (λ z. omega (arith, code-of (result-short h)))
+      go (by-fault k code place e) =
           let f = refused-exactly s code place (c .bytes) .0 e in
-          unread (reads.faulty l f (result-faulty l code place e) (kept-faulty l code place e))
-          (λ z. omega (arith, code-of (result-faulty l code place e), refusal-codes s code place f))
-      go (by-book l b e) = let (a, same) = parse-fine s b (c .bytes) e in judged l b e a same (decLt (wrongItem b) (length (b .items)))
+          unread (reads.faulty k f (result-faulty k code place e) (c .buffers ∙ when-faulty s l _ _ k code place e))
+          (λ z. omega (arith, code-of (result-faulty k code place e), refusal-codes s code place f))
+      go (by-book k b e) = let (a, same) = parse-fine s b (c .bytes) e in judged k b e a same (decLt (wrongItem b) (length (b .items)))

@@ -4,16 +4,17 @@ use mathlib.Core.Path.{_≡_}
 use mathlib.Core.List.{List, [], _∷_, _++_}
 use Prim.Native.Nat.{ℕ}
 use lib.ListN.{take, drop}
+use Rattle.base.specs.Sizes.{LongEnough}
 use Rattle.reversal.specs.Twelve.{made}
 use Rattle.book.specs.Book.{frame, itemRec}
+use Rattle.book.specs.Lent.{Lent, sizes}
 use Rattle.book.specs.Example.{bytesQ}
 use Rattle.reader.specs.declared.Reading.{Reading}
-use Rattle.reader.specs.Reads.{Long}
 use Rattle.checker.specs.Checks.{Checks}
 
 -- in buffers that are long enough, checking these bytes answers this
 pub record Judges (book : List ℕ) (answer : Reading) : Type 0 where
-  pub result : {table slots : List ℕ} {r : Reading} {table′ slots′ : List ℕ} → Checks book table slots r table′ slots′ → Long table slots → r ≡ answer
+  pub result : {l : Lent} {r : Reading} {l′ : Lent} → Checks book l r l′ → LongEnough (sizes l) → r ≡ answer
 
 pub record QChecked : Type 0 where
   -- "Q1 all five items are accepted."

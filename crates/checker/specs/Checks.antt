@@ -1,4 +1,4 @@
--- What checking answers and leaves in the lent table and slots (01, its table of codes: "checking a book is reading and 8"), for the reader.
+-- What checking answers and leaves in the lent buffers (01, its table of codes: "checking a book is reading and 8"), for the reader.
 -- Assumes nothing: these are definitions.
 use mathlib.Core.Path.{_≡_}
 use mathlib.Core.List.{List}
@@ -9,6 +9,7 @@ use Rattle.base.specs.Lowest.{LowestWrong}
 use Rattle.reversal.specs.Reversal.{Accepted}
 use Rattle.reversal.specs.Chains.{item}
 use Rattle.book.specs.Book.{Book, deviceOf, AllowedBook, bytesOf}
+use Rattle.book.specs.Lent.{Lent}
 use Rattle.reader.specs.declared.Reading.{Reading}
 use Rattle.reader.specs.Reads.{refusal, done, Filled, Reads}
 
@@ -30,17 +31,16 @@ placeOf b i = length (bytesOf (record { n = b .n; m = b .m; moves = b .moves; it
 abbrev pub FirstWrong : Book → ℕ → Type 0
 FirstWrong b i = LowestWrong (λ j. Accepted (deviceOf b) (item (b .items) j)) (length (b .items)) i
 
--- table and slots read from a book that is accepted
-pub record Checked (book table slots : List ℕ) (b : Book) (table′ slots′ : List ℕ) : Type 0 where
-  pub filled : Filled book table slots b table′ slots′
+-- the buffers read from a book that is accepted
+pub record Checked (book : List ℕ) (l : Lent) (b : Book) (l′ : Lent) : Type 0 where
+  pub filled : Filled book l b l′
   pub accepted : AllAccepted b
 
--- of a book, a table and slots at entry; the result, the table and the slots at exit
-pub data Checks (book table slots : List ℕ) (result : Reading) (table′ slots′ : List ℕ) : Type 0 where
+-- of a book and the lent buffers at entry; the result and the buffers at exit
+pub data Checks (book : List ℕ) (l : Lent) (result : Reading) (l′ : Lent) : Type 0 where
   -- what reading refuses, as it does
-  unread : Reads book table slots result table′ slots′ → (result .code ≡ 0 → ⊥) → Checks book table slots result table′ slots′
+  unread : Reads book l result l′ → (result .code ≡ 0 → ⊥) → Checks book l result l′
   -- "8, record's offset: item not accepted; the place is that of the first wrong item; table and slots read"
-  wrong : (b : Book) → Filled book table slots b table′ slots′ → {i : ℕ} → FirstWrong b i → result ≡ refusal 8 (placeOf b i)
-      → Checks book table slots result table′ slots′
+  wrong : (b : Book) → Filled book l b l′ → {i : ℕ} → FirstWrong b i → result ≡ refusal 8 (placeOf b i) → Checks book l result l′
   -- "0, 0: done"
-  fine : (b : Book) → Checked book table slots b table′ slots′ → result ≡ done b → Checks book table slots result table′ slots′
+  fine : (b : Book) → Checked book l b l′ → result ≡ done b → Checks book l result l′

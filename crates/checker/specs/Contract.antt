@@ -13,10 +13,10 @@ use Rattle.reversal.specs.Reversal.{Item}
 use Rattle.reversal.specs.Chains.{item}
 use Rattle.reversal.specs.Computed.Sets.{accepts}
 use Rattle.book.specs.Book.{Book, deviceOf, AllowedBook, bytesOf}
-use Rattle.book.specs.Buffers.{tableOf, slotsOf}
+use Rattle.book.specs.Lent.{Lent}
 use Rattle.reader.specs.declared.Reading.{Reading}
 use Rattle.reader.specs.Reads.{refusal, done}
-use Rattle.reader.specs.Contract.{readBy}
+use Rattle.reader.specs.Contract.{readBy, lentBy}
 use Rattle.checker.specs.declared.Verdict.{Verdict}
 use Rattle.checker.specs.declared.Verdict.the-variants.{Accepted, NoReversePlan}
 use Rattle.checker.specs.declared.Judgement.{Judgement}
@@ -50,12 +50,11 @@ abbrev pub judgedBy : {A : Type 0} → (ℕ → ℕ → A) → (Book → A) → 
 judgedBy refuse fine b = onJudgement (judgementOf b) refuse (fine b)
 
 -- `refuse` with the first code and its place, `fine` with an accepted book
-unfoldable pub checkBy : {A : Type 0} → List ℕ → List ℕ → List ℕ → (ℕ → ℕ → A) → (Book → A) → A
-checkBy s t d refuse fine = readBy s t d refuse (judgedBy refuse fine)
+unfoldable pub checkBy : {A : Type 0} → List ℕ → Lent → (ℕ → ℕ → A) → (Book → A) → A
+checkBy s l refuse fine = readBy s l refuse (judgedBy refuse fine)
 
--- the contract of `check`; the table and the slots are filled as by reading
-pub record CheckAs (s t d : List ℕ) (r : Reading) (t′ d′ : List ℕ) : Type 0 where
+-- the contract of `check`; the buffers are filled as by reading
+pub record CheckAs (s : List ℕ) (l : Lent) (r : Reading) (l′ : Lent) : Type 0 where
   pub bytes : Each (λ x. x < 256) s
-  pub result : r ≡ checkBy s t d refusal done
-  pub table : t′ ≡ readBy s t d (λ code place. t) (λ b. tableOf b t)
-  pub slots : d′ ≡ readBy s t d (λ code place. d) (λ b. slotsOf b d)
+  pub result : r ≡ checkBy s l refusal done
+  pub buffers : l′ ≡ lentBy s l

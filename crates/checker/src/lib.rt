@@ -6,6 +6,7 @@ ghost use Prim.Native.Nat.{_<_, _≤_};
 ghost use Rattle.reversal.specs.Device.{tabled};
 ghost use Rattle.reversal.specs.Computed.Sets.{runsBack};
 ghost use Rattle.book.specs.Book.{WellFormed};
+ghost use Rattle.book.specs.Lent.{lent};
 ghost use Rattle.checker.specs.Verdicts.{codeOf};
 ghost use Rattle.checker.specs.Contract.{Judged, CheckAs};
 
@@ -84,7 +85,8 @@ fn code_of(verdict: Verdict) -> u64
 
 // Reads a book, and judges each of its items: the code of the first one that is not accepted, at the place of its record.
 pub fn check(book: &[u8], table: &mut [u64], slots: &mut [u8]) -> Reading
-    ensures { λ r. ⌜ CheckAs (now (book .entry)) (now (table .entry)) (now (slots .entry)) r (now (table .exit)) (now (slots .exit)) ⌝ }
+    ensures { λ r. ⌜ CheckAs (now (book .entry)) (lent (now (table .entry)) (now (slots .entry))) r
+        (lent (now (table .exit)) (now (slots .exit))) ⌝ }
 {
     let found = reader::read(book, table, slots);
     if found.code != 0 {
@@ -93,12 +95,6 @@ pub fn check(book: &[u8], table: &mut [u64], slots: &mut [u8]) -> Reading
     let judged = first_wrong(book, table, found.n, found.m);
     match judged {
         Judgement::AllAccepted => found,
-        Judgement::Wrong(place, verdict) => Reading {
-            code: code_of(verdict),
-            place: place,
-            n: 0,
-            m: 0,
-            items: 0,
-        },
+        Judgement::Wrong(place, verdict) => reader::refused(code_of(verdict), place),
     }
 }

@@ -15,10 +15,9 @@ use Rattle.writer.specs.Contract.{WriteAs}
 use Rattle.writer.proofs.Answers.{writes}
 use Rattle.writer.proofs.RoundTrips.{writes-zero↔, write-well-formed, write-length}
 use Rattle.writer.proofs.write as write
-use Rattle.runs.specs.RunBytes.{runBytes}
-use Rattle.book.specs.Example.{bytesQ}
 use Rattle.assembly.specs.declared.Assembly.{Assembly}
-use Rattle.assembly.specs.Assembles.{LegForm, inBytes, Assembles}
+use Rattle.assembly.specs.Lent.{LegForm, inBytes, AllLent}
+use Rattle.assembly.specs.Assembles.{Assembles}
 use Rattle.assembly.specs.Contract.{AssembleAs}
 use Rattle.assembly.proofs.Exactly.{even-bytes, assembles}
 use Rattle.assembly.proofs.Demand.{demand}
@@ -94,11 +93,9 @@ module _ (ρ : Routine) where
 
 -- ---- the worked cases, of any routine that keeps the contract
 -- a run of the joint table, whatever bytes it came in
-worked-run : {E : Type 0} (form : LegForm E) {book run table slots plan : List ℕ} {legs : List E} {r : Assembly} {table′ slots′ plan′ : List ℕ}
-    {legs′ : List E} → Assembles form book run table slots plan legs r table′ slots′ plan′ legs′
-    → AssemblesWorked form book run table slots plan legs r table′ slots′ plan′ legs′
-worked-run form {table = table} {slots} {plan} {legs} {r} {table′} {slots′} {plan′} {legs′} x u a give e f room long =
-    give .left (subst₂ (λ (y z : List ℕ). Assembles form y z table slots plan legs r table′ slots′ plan′ legs′) e f x) room long
+worked-run : {E : Type 0} (form : LegForm E) {book run : List ℕ} {l : AllLent E} {r : Assembly} {l′ : AllLent E} → Assembles form book run l r l′
+    → AssemblesWorked form book run l r l′
+worked-run form {l = l} {r} {l′} x u a give e f long = give .left (subst₂ (λ (y z : List ℕ). Assembles form y z l r l′) e f x) long
 
 module _ (ρ : Routine) where
   pub check-worked : Always check.ended ρ (onRead CheckAs) → Always check.ended ρ (onRead ChecksWorked)

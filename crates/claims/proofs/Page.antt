@@ -53,7 +53,8 @@ use Rattle.writer.proofs.write.Met.{met as write-met}
 use Rattle.runs.specs.Example as run-example
 use Rattle.runs.proofs.Example as run-cases
 use Rattle.assembly.specs.declared.Assembly.{Assembly}
-use Rattle.assembly.specs.Assembles.{LegForm, inBytes, Assembles}
+use Rattle.assembly.specs.Lent.{LegForm, inBytes, AllLent}
+use Rattle.assembly.specs.Assembles.{Assembles}
 use Rattle.assembly.specs.Demand.{Ready, Demand}
 use Rattle.assembly.specs.Cases.{Runs, LegRuns}
 use Rattle.assembly.proofs.Unique.{assembles-unique}
@@ -195,12 +196,10 @@ printing-first = prints-first
 
 -- ---- what 01 says leaves one answer only: for equal arguments, in the result and in every buffer at exit
 
-pub only-reading : {book table slots : List ℕ} {r q : Reading} {t s t′ s′ : List ℕ} → Bytes book → Reads book table slots r t s
-    → Reads book table slots q t′ s′ → (r ≡ q) × (t ≡ t′) × (s ≡ s′)
+pub only-reading : {book : List ℕ} {l : Lent} {r q : Reading} {l′ l″ : Lent} → Bytes book → Reads book l r l′ → Reads book l q l″ → (r ≡ q) × (l′ ≡ l″)
 only-reading h x y = reads-unique h x y
 
-pub only-checking : {book table slots : List ℕ} {r q : Reading} {t s t′ s′ : List ℕ} → Bytes book → Checks book table slots r t s
-    → Checks book table slots q t′ s′ → (r ≡ q) × (t ≡ t′) × (s ≡ s′)
+pub only-checking : {book : List ℕ} {l : Lent} {r q : Reading} {l′ l″ : Lent} → Bytes book → Checks book l r l′ → Checks book l q l″ → (r ≡ q) × (l′ ≡ l″)
 only-checking h x y = checks-unique h x y
 
 pub only-writing : {n m items : ℕ} {l : Lent} {out : List ℕ} {r q : Writing} {o o′ : List ℕ} → Bytes (l .slots) → Writes n m items l out r o
@@ -208,9 +207,8 @@ pub only-writing : {n m items : ℕ} {l : Lent} {out : List ℕ} {r q : Writing}
 only-writing h x y = writes-unique h x y
 
 -- for either form of the legs
-pub only-assembling : {E : Type 0} {form : LegForm E} {book run table slots plan : List ℕ} {legs : List E} {r q : Assembly} {t s p t′ s′ p′ : List ℕ}
-    {l l′ : List E} → Bytes book → Assembles form book run table slots plan legs r t s p l → Assembles form book run table slots plan legs q t′ s′ p′ l′
-    → (r ≡ q) × (t ≡ t′) × (s ≡ s′) × (p ≡ p′) × (l ≡ l′)
+pub only-assembling : {E : Type 0} {form : LegForm E} {book run : List ℕ} {l : AllLent E} {r q : Assembly} {l′ l″ : AllLent E} → Bytes book
+    → Assembles form book run l r l′ → Assembles form book run l q l″ → (r ≡ q) × (l′ ≡ l″)
 only-assembling h x y = assembles-unique h x y
 
 pub only-looking-up : (state command : ℕ) (r q : LookupResult) → Looked state command r → Looked state command q → r ≡ q
@@ -220,10 +218,9 @@ pub only-printing : {book run text text′ : List ℕ} → Bytes (take 31111 boo
 only-printing = prints-unique
 
 -- demand 3 alone, where no refusal before it is due and some history fits: which of 0 and 11, the numbers, and on 0 counts, plan and legs
-pub only-demand : {E : Type 0} (form : LegForm E) {book run table slots plan : List ℕ} {legs : List E} {b : Book} {u : Run}
-    → Ready form book run table slots plan legs b u → {r q : Assembly} {p p′ : List ℕ} {l l′ : List E}
-    → Demand form book run table slots plan legs r p l → Demand form book run table slots plan legs q p′ l′
-    → (r .code ≡ q .code) × (r .fewest ≡ q .fewest) × (r .code ≡ 0 → SamePlan form r q p p′ l l′)
+pub only-demand : {E : Type 0} (form : LegForm E) {book run : List ℕ} {l : AllLent E} {b : Book} {u : Run} → Ready form book run l b u
+    → {r q : Assembly} {l′ l″ : AllLent E} → Demand form book run l r l′ → Demand form book run l q l″
+    → (r .code ≡ q .code) × (r .fewest ≡ q .fewest) × (r .code ≡ 0 → SamePlan form r q (l′ .room) (l″ .room))
 only-demand form ready x y = demand-unique form ready x y
 
 pub only-answer : (d : Device) (items : List Item) (r : Run) (a b : Answer) → Answers d items r a → Answers d items r b → a ≡ b

@@ -1,19 +1,19 @@
 -- The round trips, from what 01 says of reading and writing. Assumes nothing.
-use mathlib.Core.Path.{_≡_, refl, sym, ap, ap₂, _∙_, subst}
+use mathlib.Core.Path.{_≡_, sym, ap, ap₂, _∙_, subst}
 use mathlib.Core.List.{List}
-use Prim.Native.Nat.{ℕ, _*_, _<_, _≤_}
+use Prim.Native.Nat.{ℕ, _*_, _<_}
 use native.Mathlib.Omega.{arith}
-use lib.ListN.{length, getD, take}
+use lib.ListN.{length, take}
 use Rattle.base.specs.Lists.{Bytes}
 use Rattle.base.specs.Sizes.{LongEnough}
 use Rattle.book.specs.Book.{Book, deviceOf, AllowedBook, bytesOf}
-use Rattle.book.specs.Lent.{Lent, lent, slotsBytes, Holds}
+use Rattle.book.specs.Lent.{Lent, slotsBytes, Holds}
 use Rattle.book.proofs.Codes.{refusal-codes}
 use Rattle.book.proofs.Slots.{length-slots}
 use Rattle.book.proofs.Unique.{same-entry, one-book, not-refused}
 use Rattle.book.proofs.RoundTrip.{read-holds}
 use Rattle.reader.specs.declared.Reading.{Reading}
-use Rattle.reader.specs.Reads.{done, Long, Filled, Reads, short, faulty, fine}
+use Rattle.reader.specs.Reads.{done, Filled, Reads, short, faulty, fine}
 use Rattle.writer.specs.declared.Writing.{Writing}
 use Rattle.writer.specs.Writes.{buffers, BookWritten, Writes}
 use Rattle.writer.proofs.Answers.{held-written}
@@ -22,7 +22,7 @@ use Rattle.claims.specs.Claims.{GivenBack, ReadBack, WriteBack}
 
 pub write-back : {n m items : ℕ} {l : Lent} {out : List ℕ} {r : Writing} {out′ : List ℕ} → Bytes (l .slots) → Writes n m items l out r out′
     → WriteBack n m items l out r out′
-write-back {n} {m} {items} {l} {out} {r} {out′} h x book t s reads room = go reads
+write-back {n} {m} {items} {l} {out} {r} {out′} h x book k reads room = go reads
   where
     read : Reading
     read = record { code = 0; place = 0; n = n; m = m; items = items }
@@ -30,19 +30,18 @@ write-back {n} {m} {items} {l} {out} {r} {out′} h x book t s reads room = go r
     code-of : {y : Reading} → read ≡ y → 0 ≡ y .code
     code-of e = ap (λ (y : Reading). y .code) e
 
-    go : Reads book t s read (l .table) (l .slots) → BookWritten book out r out′
-    go (short a e k) = absurd (omega (arith, code-of e))
-    go (faulty _ f e k) = absurd (omega (arith, code-of e, refusal-codes book _ _ f))
+    go : Reads book k read l → BookWritten book out r out′
+    go (short a e _) = absurd (omega (arith, code-of e))
+    go (faulty _ f e _) = absurd (omega (arith, code-of e, refusal-codes book _ _ f))
     go (fine b f e) =
         let holds : Holds n m items l b
-        = subst (λ (y : Reading). Holds (y .n) (y .m) (y .items) l b) (sym e) (read-holds (f .table-read) (f .slots-read)) in
+        = subst (λ (y : Reading). Holds (y .n) (y .m) (y .items) l b) (sym e) (read-holds (f .read .table-read) (f .read .slots-read)) in
         let long : LongEnough (buffers l out)
-        = (omega (arith, f .table-read .size, f .long .0), (omega (arith, f .slots-read .size, f .long .1), (room, tt))) in
+        = (omega (arith, f .read .table-read .size, f .long .0), (omega (arith, f .read .slots-read .size, f .long .1 .0), (room, tt))) in
         subst (λ (y : List ℕ). BookWritten y out r out′) (f .bytes) (held-written h x long (f .allowed) holds)
 
-pub read-back : {book table slots : List ℕ} {r : Reading} {table′ slots′ : List ℕ} → Bytes book → Reads book table slots r table′ slots′
-    → ReadBack book table slots r table′ slots′
-read-back {book} {table} {slots} {r} {table′} {slots′} h reads n m items t s out w out′ x z e l = go reads
+pub read-back : {book : List ℕ} {l : Lent} {r : Reading} {l′ : Lent} → Bytes book → Reads book l r l′ → ReadBack book l r l′
+read-back {book} {l} {r} {l′} h reads n m items u out w out′ x z e long = go reads
   where
     b : Book
     b = done-of z x .1 .0
@@ -50,7 +49,7 @@ read-back {book} {table} {slots} {r} {table′} {slots′} h reads n m items t s
     allowed : AllowedBook b
     allowed = done-of z x .1 .1
 
-    holds : Holds n m items (lent t s) b
+    holds : Holds n m items u b
     holds = done-of z x .1 .2
 
     same : bytesOf b ≡ book
@@ -59,7 +58,7 @@ read-back {book} {table} {slots} {r} {table′} {slots′} h reads n m items t s
     size : length (slotsBytes (b .items)) ≡ 34 * items
     size = length-slots (deviceOf b) (b .items) (allowed .each-item) ∙ ap (λ (k : ℕ). 34 * k) (holds .count)
 
-    back : r ≡ done b → Filled book table slots b table′ slots′ → GivenBack n m items t s r table′ slots′
+    back : r ≡ done b → Filled book l b l′ → GivenBack n m items u r l′
     back q f =
         record {
           result =
@@ -68,16 +67,16 @@ read-back {book} {table} {slots} {r} {table′} {slots′} h reads n m items t s
               ∙ ap (λ (k : ℕ). record { code = 0; place = 0; n = n; m = m; items = k }) (holds .count));
           entries =
               λ i k.
-              same-entry b allowed (f .table-read) (holds .entries) i
+              same-entry b allowed (f .read .table-read) (holds .entries) i
               (subst (λ (c : ℕ). i < c) (ap₂ (λ (i j : ℕ). i * j) (sym (holds .states)) (sym (holds .commands))) k);
           slots-same =
-              ap (λ (k : ℕ). take k slots′) (sym size)
-              ∙ (f .slots-read .front ∙ (sym (holds .slots-are .front) ∙ ap (λ (k : ℕ). take k s) size));
+              ap (λ (k : ℕ). take k (l′ .slots)) (sym size)
+              ∙ (f .read .slots-read .front ∙ (sym (holds .slots-are .front) ∙ ap (λ (k : ℕ). take k (u .slots)) size));
         }
 
-    go : Reads book table slots r table′ slots′ → GivenBack n m items t s r table′ slots′
-    go (short a q k) = absurd (a l)
+    go : Reads book l r l′ → GivenBack n m items u r l′
+    go (short a q k) = absurd (a long)
     go (faulty _ f q k) = absurd (not-refused book h f b allowed same)
     go (fine b′ f q) =
         let y : b′ ≡ b = one-book b′ b (f .allowed) allowed (f .bytes ∙ sym same) in
-        back (q ∙ ap done y) (subst (λ (v : Book). Filled book table slots v table′ slots′) y f)
+        back (q ∙ ap done y) (subst (λ (v : Book). Filled book l v l′) y f)

@@ -7,11 +7,11 @@ use Prim.Native.Nat.{ℕ, _*_, _<_, _≤_}
 use prog.Routine.{Routine}
 use lib.ListN.{length, getD, take}
 use denote.Ref.{now}
+use Rattle.base.specs.Sizes.{LongEnough as Long}
 use Rattle.book.specs.Book.{Book, AllowedBook, bytesOf, WellFormed}
-use Rattle.base.specs.Sizes.{LongEnough}
-use Rattle.book.specs.Lent.{Lent, lent, Holds}
+use Rattle.book.specs.Lent.{Lent, lent, sizes, Holds}
 use Rattle.reader.specs.declared.Reading.{Reading}
-use Rattle.reader.specs.Reads.{Long, Reads}
+use Rattle.reader.specs.Reads.{Reads}
 use Rattle.reader.proofs.read as read
 use Rattle.checker.specs.Checks.{AcceptedBook, placeOf, FirstWrong, Checks}
 use Rattle.checker.proofs.check as check
@@ -19,7 +19,8 @@ use Rattle.writer.specs.declared.Writing.{Writing}
 use Rattle.writer.specs.Writes.{buffers, BookWritten, Writes}
 use Rattle.writer.proofs.write as write
 use Rattle.assembly.specs.declared.Assembly.{Assembly}
-use Rattle.assembly.specs.Assembles.{LegForm, inBytes, Assembles}
+use Rattle.assembly.specs.Lent.{inBytes, AllLent, allLent}
+use Rattle.assembly.specs.Assembles.{Assembles}
 use Rattle.assembly.specs.Demand.{Demand}
 use Rattle.assembly.proofs.assemble as assemble
 use Rattle.ridge.specs.declared.LookupResult.{LookupResult}
@@ -35,10 +36,11 @@ use Rattle.claims.specs.Always.{After, Always}
 -- ---- the shape of each call: P of the arguments, the result and what is at exit
 
 abbrev pub Read : Type 1
-Read = List ℕ → List ℕ → List ℕ → Reading → List ℕ → List ℕ → Type 0
+Read = List ℕ → Lent → Reading → Lent → Type 0
 
 abbrev pub onRead : Read → After read.ended
-onRead P κs (book, (table, (slots, _))) r (_, (table′, (slots′, _))) = P (now book) (now table) (now slots) r (now table′) (now slots′)
+onRead P κs (book, (table, (slots, _))) r (_, (table′, (slots′, _))) =
+    P (now book) (lent (now table) (now slots)) r (lent (now table′) (now slots′))
 
 abbrev pub Write : Type 1
 Write = ℕ → ℕ → ℕ → Lent → List ℕ → Writing → List ℕ → Type 0
@@ -47,15 +49,17 @@ abbrev pub onWrite : Write → After write.ended
 onWrite P κs (n, (m, (items, (table, (slots, (out, _)))))) r (_, (_, (_, (_, (_, (out′, _)))))) = P n m items (lent (now table) (now slots)) (now out) r (now out′)
 
 abbrev pub Assemble : Type 0 → Type 1
-Assemble E = List ℕ → List ℕ → List ℕ → List ℕ → List ℕ → List E → Assembly → List ℕ → List ℕ → List ℕ → List E → Type 0
+Assemble E = List ℕ → List ℕ → AllLent E → Assembly → AllLent E → Type 0
 
 abbrev pub onAssemble : Assemble ℕ → After assemble.ended
 onAssemble P κs (book, (run, (table, (slots, (plan, (legs, _)))))) r (_, (_, (table′, (slots′, (plan′, (legs′, _)))))) =
-    P (now book) (now run) (now table) (now slots) (now plan) (now legs) r (now table′) (now slots′) (now plan′) (now legs′)
+    P (now book) (now run) (allLent (lent (now table) (now slots)) (now plan) (now legs)) r
+    (allLent (lent (now table′) (now slots′)) (now plan′) (now legs′))
 
 abbrev pub onLegs : Assemble Leg → After assemble-legs.ended
 onLegs P κs (book, (run, (table, (slots, (plan, (legs, _)))))) r (_, (_, (table′, (slots′, (plan′, (legs′, _)))))) =
-    P (now book) (now run) (now table) (now slots) (now plan) (now legs) r (now table′) (now slots′) (now plan′) (now legs′)
+    P (now book) (now run) (allLent (lent (now table) (now slots)) (now plan) (now legs)) r
+    (allLent (lent (now table′) (now slots′)) (now plan′) (now legs′))
 
 abbrev pub onLookup : (ℕ → ℕ → LookupResult → Type 0) → After lookup.ended
 onLookup P κs (state, (command, _)) r e = P state command r
@@ -66,28 +70,28 @@ onReport P κs (book, (run, (out, _))) r (_, (_, (out′, _))) = P (now book) (n
 -- ---- the round trips: of one call, whatever the other was given
 
 -- n, m, count, every entry below n × m, every slot below the count
-pub record GivenBack (n m items : ℕ) (table slots : List ℕ) (r : Reading) (table′ slots′ : List ℕ) : Type 0 where
+pub record GivenBack (n m items : ℕ) (l : Lent) (r : Reading) (l′ : Lent) : Type 0 where
   pub result : r ≡ record { code = 0; place = 0; n = n; m = m; items = items }
-  pub entries : (i : ℕ) → i < n * m → getD table′ i 0 ≡ getD table i 0
-  pub slots-same : take (34 * items) slots′ ≡ take (34 * items) slots
+  pub entries : (i : ℕ) → i < n * m → getD (l′ .table) i 0 ≡ getD (l .table) i 0
+  pub slots-same : take (34 * items) (l′ .slots) ≡ take (34 * items) (l .slots)
 
 -- "writing allowed tables and items and reading them gives those back": the book is what some writing, with code 0, wrote
 abbrev pub ReadBack : Read
-ReadBack book table slots r table′ slots′ =
-    (n m items : ℕ) (t s out : List ℕ) (w : Writing) (out′ : List ℕ) → Writes n m items (lent t s) out w out′ → w .code ≡ 0
-    → book ≡ take (w .length) out′ → Long table slots → GivenBack n m items t s r table′ slots′
+ReadBack book l r l′ =
+    (n m items : ℕ) (k : Lent) (out : List ℕ) (w : Writing) (out′ : List ℕ) → Writes n m items k out w out′ → w .code ≡ 0
+    → book ≡ take (w .length) out′ → Long (sizes l) → GivenBack n m items k r l′
 
 -- "Reading a well-formed book and writing it gives the same bytes": the n, m, count, table and slots are those that some reading, with code 0, left
 abbrev pub WriteBack : Write
 WriteBack n m items l out r out′ =
-    (book t s : List ℕ) → Reads book t s (record { code = 0; place = 0; n = n; m = m; items = items }) (l .table) (l .slots) → 31110 ≤ length out
+    (book : List ℕ) (k : Lent) → Reads book k (record { code = 0; place = 0; n = n; m = m; items = items }) l → 31110 ≤ length out
     → BookWritten book out r out′
 
 -- ---- the claims
 
 -- reading answers 0 exactly on the bytes of some allowed book, in buffers that are long enough
 abbrev pub ReadsZero : Read
-ReadsZero book table slots r table′ slots′ = (r .code ≡ 0) ↔ (Long table slots × WellFormed book)
+ReadsZero book l r l′ = (r .code ≡ 0) ↔ (Long (sizes l) × WellFormed book)
 
 pub record ReadClaims (ρ : Routine) : Type 2 where
   -- 01: "Reading fills a table .. and slots .."; its codes 1 to 7 in their order, and what each leaves behind
@@ -97,12 +101,12 @@ pub record ReadClaims (ρ : Routine) : Type 2 where
 
 -- checking answers 0 exactly where the bytes keep the rules and every item is a conditional reverse plan by trajectories
 abbrev pub ChecksZero : Read
-ChecksZero book table slots r table′ slots′ = (r .code ≡ 0) ↔ (Long table slots × ((b : Book) × AcceptedBook book b))
+ChecksZero book l r l′ = (r .code ≡ 0) ↔ (Long (sizes l) × ((b : Book) × AcceptedBook book b))
 
 -- and 8 exactly where they keep the rules and some item is not; the place is that of the first such item's record
 abbrev pub ChecksEight : Read
-ChecksEight book table slots r table′ slots′ =
-    (r .code ≡ 8) ↔ (Long table slots × ((b : Book) × AllowedBook b × (bytesOf b ≡ book) × ((i : ℕ) × FirstWrong b i × (r .place ≡ placeOf b i))))
+ChecksEight book l r l′ =
+    (r .code ≡ 8) ↔ (Long (sizes l) × ((b : Book) × AllowedBook b × (bytesOf b ≡ book) × ((i : ℕ) × FirstWrong b i × (r .place ≡ placeOf b i))))
 
 pub record CheckClaims (ρ : Routine) : Type 2 where
   -- 01: "checking a book is reading and 8"
@@ -112,7 +116,7 @@ pub record CheckClaims (ρ : Routine) : Type 2 where
 
 -- writing answers 0 exactly where the buffers are long enough and table and slots hold an allowed book
 abbrev pub WritesZero : Write
-WritesZero n m items l out r out′ = (r .code ≡ 0) ↔ (LongEnough (buffers l out) × ((b : Book) × AllowedBook b × Holds n m items l b))
+WritesZero n m items l out r out′ = (r .code ≡ 0) ↔ (Long (buffers l out) × ((b : Book) × AllowedBook b × Holds n m items l b))
 
 -- what it writes is well-formed, and no longer than any well-formed book
 abbrev pub WellWritten : Write
@@ -125,19 +129,16 @@ pub record WriteClaims (ρ : Routine) : Type 2 where
   pub well-formed : Always write.ended ρ (onWrite WellWritten)
   pub same-bytes : Always write.ended ρ (onWrite WriteBack)
 
-abbrev pub DemandOf : {E : Type 0} → LegForm E → Assemble E
-DemandOf form book run table slots plan legs r table′ slots′ plan′ legs′ = Demand form book run table slots plan legs r plan′ legs′
-
 pub record AssembleClaims (ρ : Routine) : Type 2 where
   -- every code of 01's table in its order, with every buffer as stated for it
   pub says : Always assemble.ended ρ (onAssemble (Assembles inBytes))
   -- demand 3, whole
-  pub demand-three : Always assemble.ended ρ (onAssemble (DemandOf inBytes))
+  pub demand-three : Always assemble.ended ρ (onAssemble (Demand inBytes))
 
 -- with leg structs: the same of the structs
 pub record LegsClaims (ρ : Routine) : Type 2 where
   pub says : Always assemble-legs.ended ρ (onLegs (Assembles inStructs))
-  pub demand-three : Always assemble-legs.ended ρ (onLegs (DemandOf inStructs))
+  pub demand-three : Always assemble-legs.ended ρ (onLegs (Demand inStructs))
 
 pub record LookupClaims (ρ : Routine) : Type 2 where
   -- 01: "A lookup with state over 63 or command over 15 returns 5, 0 and mask 0; else 0, 0 and the mask"

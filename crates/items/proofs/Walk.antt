@@ -1,14 +1,11 @@
 -- The ways to the first item and from item to item: what is left of a book's records stands where the walk is. Assumes nothing.
-use mathlib.Core.Path.{_≡_, refl, ap, _∙_}
-use mathlib.Core.Bool.{Bool, true, false}
+use mathlib.Core.Path.{_≡_, ap, _∙_}
 use mathlib.Core.List.{List, [], _∷_, _++_, map}
-use Prim.Native.Nat.{ℕ, suc, _+_, _-_, _≤_, _<_}
+use Prim.Native.Nat.{ℕ, suc, _+_, _≤_, _<_}
 use native.Mathlib.Omega.{arith}
 use native.Mathlib.Decide.{decLt}
-use borrow.Author.Tests.{eqb-true, eqb-false}
-use lib.Dec.{eqb}
-use lib.ListN.{length, getD, set, drop, length-drop, length-append, drop-of-length-le}
-use lib.Seq.{drop-drop, drop-cons, getD-set-same, getD-set-other}
+use lib.ListN.{length, drop, length-drop, length-append, drop-of-length-le}
+use lib.Seq.{drop-drop, drop-cons}
 use Rattle.reversal.specs.Reversal.{Item}
 use Rattle.reversal.specs.Chains.{absent, item}
 use Rattle.octets.specs.Le.{bytesLe}
@@ -99,30 +96,3 @@ module _ {s : List ℕ} {b : Book} {i at : ℕ} (a : AllowedBook b) (e : bytesOf
           let f : length (drop at s) ≡ length (frame (itemRec x) ++ t) =
           ap length (here ∙ ap (λ (l : List Item). framed (map itemRec l)) (drop-cons (b .items) i absent l)) in
           absurd (omega (arith, length-drop at s, length-append (frame (itemRec x)) t, length-frame (itemRec x)))
-
--- the places of the items passed
-pub record Passing (s : List ℕ) (b : Book) (places : List ℕ) (count at : ℕ) : Type 0 where
-  pub known : count ≤ length (b .items)
-  pub here : Begins s b count at
-  pub before : (i : ℕ) → i < count → Begins s b i (getD places i 0)
-
-pub at-start : {s : List ℕ} {b : Book} {from : ℕ} (places : List ℕ) → Begins s b 0 from → Passing s b places 0 from
-at-start places q = record { known = omega arith; here = q; before = λ i h. absurd (omega arith) }
-
-module _ {s : List ℕ} {b : Book} {places : List ℕ} {count at : ℕ} (a : AllowedBook b) (e : bytesOf b ≡ s) (p : Passing s b places count at) where
-  pub passed : at < length s → count < length places → (next : ℕ) → Begins s b (count + 1) next → Passing s b (set places count at) (count + 1) next
-  passed h l next q =
-      record {
-        known = omega (arith, one-more a e (p .known) (p .here) h .known);
-        here = q;
-        before = λ i m. one i m (eqb i count) refl;
-      }
-    where
-      one : (i : ℕ) → i < count + 1 → (c : Bool) → eqb i count ≡ c → Begins s b i (getD (set places count at) i 0)
-      one i m true z = let y : i ≡ count = eqb-true i count z in rw y (ap (λ (j : ℕ). drop j s) (getD-set-same places count at 0 l) ∙ p .here)
-      one i m false z =
-          let f = eqb-false i count z in
-          ap (λ (j : ℕ). drop j s) (getD-set-other places count i at 0 f) ∙ p .before i (omega arith)
-
-  pub placed : length s ≤ at → (i : ℕ) → i < length (b .items) → ItemStands s b i (getD places i 0)
-  placed h i l = record { allowed = a; bytes = e; known = l; begins = p .before i (omega (arith, all-passed a e (p .known) (p .here) h)) }

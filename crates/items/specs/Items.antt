@@ -1,15 +1,15 @@
 -- The items in a book's bytes, for every allowed book whose bytes these are. Assumes nothing: these are definitions.
 use mathlib.Core.Path.{_≡_}
-use mathlib.Core.List.{List, [], _∷_, _++_, map}
+use mathlib.Core.List.{List, _++_, map}
 use Prim.Native.Nat.{ℕ, _+_, _≤_, _<_}
 use lib.ListN.{length, take, drop}
 use Rattle.reversal.specs.Reversal.{Item}
 use Rattle.reversal.specs.Chains.{item}
 use Rattle.octets.specs.Le.{bytesLe}
 use Rattle.book.specs.Book.{Book, AllowedBook, bytesOf, framed, itemRec}
-use Rattle.octets.specs.Parts.{leAt}
+use Rattle.octets.specs.Parts.{piece}
 use Rattle.items.specs.declared.Place.{Place}
-use Rattle.items.specs.declared.Counts.{Counts}
+use Rattle.items.specs.declared.Parts.{Parts}
 
 -- the records of b's items from item i on are what stands in s from `at` on
 abbrev pub Begins : List ℕ → Book → ℕ → ℕ → Type 0
@@ -28,10 +28,8 @@ pub record Fields (s : List ℕ) (at : ℕ) (p : Place) (x : Item) : Type 0 wher
   pub r-is : p .r ≡ length (x .reverse)
   pub phi-is : p .phi ≡ x .phi
   pub psi-is : p .psi ≡ x .psi
-  pub counts-are : take 2 (drop (at + 4) s) ≡ p .k ∷ p .r ∷ []
   pub forward-is : take (p .k) (drop (at + 6) s) ≡ x .forward
   pub reverse-is : take (p .r) (drop (at + 6 + p .k) s) ≡ x .reverse
-  pub masks-are : take 16 (drop (at + 6 + p .k + p .r) s) ≡ bytesLe 8 (x .phi) ++ bytesLe 8 (x .psi)
   pub within : at + 22 + p .k + p .r ≤ length s
 
 -- the contract of `item_at`
@@ -40,13 +38,19 @@ pub record ItemAt (s : List ℕ) (at : ℕ) (p : Place) : Type 0 where
   pub fields : {b : Book} {i : ℕ} → ItemStands s b i at → Fields s at p (item (b .items) i)
   pub next : {b : Book} {i : ℕ} → ItemStands s b i at → Begins s b (i + 1) (p .next)
 
--- the contract of `counts_at`: with the masks that stand there it is that of `item_at`
-abbrev pub withMasks : List ℕ → ℕ → Counts → Place
-withMasks s at p =
-    record { k = p .k; r = p .r; phi = leAt 8 s (at + 6 + p .k + p .r); psi = leAt 8 s (at + 6 + p .k + p .r + 8); next = p .next }
+-- where the parts of item x stand
+pub record PartsOf (s : List ℕ) (p : Parts) (x : Item) : Type 0 where
+  pub k-is : p .k ≡ length (x .forward)
+  pub r-is : p .r ≡ length (x .reverse)
+  pub forward-is : piece (p .k) s (p .forward) ≡ x .forward
+  pub reverse-is : piece (p .r) s (p .reverse) ≡ x .reverse
+  pub masks-are : piece 16 s (p .masks) ≡ bytesLe 8 (x .phi) ++ bytesLe 8 (x .psi)
 
-abbrev pub CountsAt : List ℕ → ℕ → Counts → Type 0
-CountsAt s at p = ItemAt s at (withMasks s at p)
+-- the contract of `parts_at`
+pub record PartsAt (s : List ℕ) (at : ℕ) (p : Parts) : Type 0 where
+  pub past : at < length s → at < p .next
+  pub parts : {b : Book} {i : ℕ} → ItemStands s b i at → PartsOf s p (item (b .items) i)
+  pub next : {b : Book} {i : ℕ} → ItemStands s b i at → Begins s b (i + 1) (p .next)
 
 -- the contract of `first_item`
 pub record FirstItem (s : List ℕ) (r : ℕ) : Type 0 where

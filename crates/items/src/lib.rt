@@ -1,6 +1,6 @@
 // The items of a book, read from its bytes: where each one's record begins, and what it holds. This is the one module that knows the layout
 // of an item's record for reading it. Every call takes any bytes; its promise speaks of every allowed book whose bytes these are.
-ghost use Rattle.items.specs.Items.{ItemAt, CountsAt, FirstItem};
+ghost use Rattle.items.specs.Items.{ItemAt, PartsAt, FirstItem};
 
 // The item whose record begins at a place: its counts and masks. Its forward commands begin 6 bytes on, its reverse commands k later;
 // `next` is the place past it.
@@ -38,29 +38,41 @@ pub fn item_at(book: &[u8], at: usize) -> Place
     }
 }
 
-// The counts alone, for who only passes the item or copies its bytes.
-pub struct Counts {
+// Where its parts stand, for who copies them: its commands each way, and its two masks.
+pub struct Parts {
     pub k: usize,
     pub r: usize,
+    pub forward: usize,
+    pub reverse: usize,
+    pub masks: usize,
     pub next: usize,
 }
 
-pub fn counts_at(book: &[u8], at: usize) -> Counts
-    ensures { λ p. ⌜ CountsAt (now (book .entry)) at p ⌝ }
+pub fn parts_at(book: &[u8], at: usize) -> Parts
+    ensures { λ p. ⌜ PartsAt (now (book .entry)) at p ⌝ }
 {
     if book.len() <= at {
-        return Counts {
+        return Parts {
             k: 0,
             r: 0,
+            forward: 0,
+            reverse: 0,
+            masks: 0,
             next: 0,
         };
     }
     let k = octets::byte_at(book, at + 4) as usize;
     let r = octets::byte_at(book, at + 5) as usize;
-    Counts {
+    let forward = at + 6;
+    let reverse = forward + k;
+    let masks = reverse + r;
+    Parts {
         k: k,
         r: r,
-        next: at + 6 + k + r + 16,
+        forward: forward,
+        reverse: reverse,
+        masks: masks,
+        next: masks + 16,
     }
 }
 

@@ -32,7 +32,8 @@ use borrow.Table.Elements.{at, cut-app, join-app, length-take-le, same-len}
 use borrow.Rule.Slice.Shared.{parts-cells}
 use borrow.Rule.Array.Share.{room-take}
 
-each-field : (D : Declared) (xs : List (D .D)) (us : List Val) → shadow (each (D .D) (row D .own) xs us) → shadow (each (Struct (shapeOf D) .Denot) (Struct (shapeOf D) .own) (map (D .to) xs) us)
+each-field : (D : Declared) (xs : List (D .D)) (us : List Val) → shadow (each (D .D) (row D .own) xs us) → shadow
+    (each (Struct (shapeOf D) .Denot) (Struct (shapeOf D) .own) (map (D .to) xs) us)
 each-field D [] [] s = s
 each-field D [] (u ∷ us) s = s
 each-field D (x ∷ xs) [] s = s
@@ -72,8 +73,10 @@ module _ {M : Type 1} (𝓤 : URA M) (H : Heap 𝓤) (A : Atoms 𝓤) (W : Given
   whole : (xs : List (R .Denot)) → ent 𝓤 ⟦ Arr (mem R) n .lies xs b 0 ⟧ (ex 𝓤 (λ (v : Val). ⟦ Cell v ⟧ ∗ ⟦ Array R n .own xs (v ∷ []) ⟧))
   unfolding partOf
   whole xs =
-      qed W (‵ (Arr (mem R) n .lies xs b 0) ∷ []) ∵ fsplit ! $ feqL ! (λ l. rewrite ! 0 (λ (F : Fml). ‵ F) (sym (parts-cells R fullShare xs b 0)) refl $ feqI ! ℕ (length xs) n l $ fjoin ! $
-      use1 W (‵ (partAt (Array R n) fullShare xs b 0)) (array-whole 𝓤 H A W R fullShare n xs b 0) $ fpick ! (λ vs. fsplit ! $ move ! (1 ∷ []) $ fpick ! (λ us. fsplit ! $ fsplit ! $ feqL ! (λ e. feqL ! (λ l′.
+      qed W (‵ (Arr (mem R) n .lies xs b 0) ∷ []) ∵ fsplit ! $ feqL !
+      (λ l. rewrite ! 0 (λ (F : Fml). ‵ F) (sym (parts-cells R fullShare xs b 0)) refl $ feqI ! ℕ (length xs) n l $ fjoin ! $
+      use1 W (‵ (partAt (Array R n) fullShare xs b 0)) (array-whole 𝓤 H A W R fullShare n xs b 0) $ fpick !
+      (λ vs. fsplit ! $ move ! (1 ∷ []) $ fpick ! (λ us. fsplit ! $ fsplit ! $ feqL ! (λ e. feqL ! (λ l′.
       -- [what each element owns; the memory, raw]
       rewrite ! 1 (λ (ws : List Val). ‵ (cellAt fullShare (tyArray (lone (R .mir)) n ∷ []) ws b 0)) e refl $ move ! (1 ∷ []) $
       use1 W (‵ (Cell (arrayVal us))) (W .laws .raw-at fullShare (tyArray (lone (R .mir)) n) b 0 (arrayVal us)) $
@@ -86,21 +89,27 @@ module _ {M : Type 1} (𝓤 : URA M) (H : Heap 𝓤) (A : Atoms 𝓤) (W : Given
   lends-first one ℓ κ xs v small room =
       qed W (‵ (Cell v) ∷ ‵ (Array R n .own xs (v ∷ [])) ∷ []) ∵ updating ! $ use2 W (‵ (Arr (mem R) n .lies xs b 0)) (apart one xs v) $ fsplit ! $ feqL ! (λ l.
       rewrite ! 0 (λ (ys : List (R .Denot)). ‵ (cells (mem R) ys b 0)) (sym (take-append-drop k xs)) refl $
-      use1 W (‵ (cells (mem R) (take k xs) b 0) ⊛ ‵ (cells (mem R) (after k xs) b (at 0 (mem R .size) (length (take k xs))))) (cut-app 𝓤 H A (mem R) (take k xs) (after k xs) b 0) $ split ! $
-      use1 W (later (some (λ (γ : GName). ‵ (MutSlice ℓ κ R .own (record { ptr = (b, 0); name = γ; now = take k xs }) (sliceVal (b, 0) (length (take k xs)) ∷ [])) ⊛ ‵ (flent κ (Held R (length (take k xs)) b 0 γ)))))
+      use1 W (‵ (cells (mem R) (take k xs) b 0) ⊛ ‵ (cells (mem R) (after k xs) b (at 0 (mem R .size) (length (take k xs)))))
+      (cut-app 𝓤 H A (mem R) (take k xs) (after k xs) b 0) $ split ! $
+      use1 W (later (some (λ (γ : GName). ‵
+      (MutSlice ℓ κ R .own (record { ptr = (b, 0); name = γ; now = take k xs }) (sliceVal (b, 0) (length (take k xs)) ∷ [])) ⊛ ‵
+      (flent κ (Held R (length (take k xs)) b 0 γ)))))
       (lends-slice 𝓤 H A W R ℓ κ (take k xs) b 0 (room-take R n k xs l room)) $ await ! tt $ pick ! (λ γ. split ! $
       -- [the slice; the way back; the elements after]
-      rewrite ! 0 (λ (m : ℕ). ‵ (MutSlice ℓ κ R .own (record { ptr = (b, 0); name = γ; now = take k xs }) (sliceVal (b, 0) m ∷ []))) (length-take-le k xs (subst (λ (m : ℕ). k ≤ m) (sym l) small)) refl $
+      rewrite ! 0 (λ (m : ℕ). ‵ (MutSlice ℓ κ R .own (record { ptr = (b, 0); name = γ; now = take k xs }) (sliceVal (b, 0) m ∷ [])))
+      (length-take-le k xs (subst (λ (m : ℕ). k ≤ m) (sym l) small)) refl $
       rewrite ! 1 (λ (m : ℕ). ‵ (flent κ (Held R m b 0 γ))) (length-take-le k xs (subst (λ (m : ℕ). k ≤ m) (sym l) small)) refl $
       rewrite ! 2 (λ (m : ℕ). ‵ (cells (mem R) (after k xs) b (at 0 (mem R .size) m))) (length-take-le k xs (subst (λ (m : ℕ). k ≤ m) (sym l) small)) refl $
       at-once ! $ show ! (λ (γ′ : GName). ⟦ First ℓ κ xs γ′ ⟧ ∗ mean 𝓤 H A (Kept κ γ′ xs)) γ $ done !))
 
   pub first-back : (κ : Lft) (γ : GName) (xs ys : List (R .Denot)) → k ≤ n → length xs ≡ n
-      → ent 𝓤 (A .dead κ ∗ mean 𝓤 H A (Kept κ γ xs) ∗ ⟦ finally R γ ys ⟧) (H .⇛ (ex 𝓤 (λ (v : Val). ⟦ Cell v ⟧ ∗ ⟦ Array R n .own (ys ++ after k xs) (v ∷ []) ⟧)))
+      → ent 𝓤 (A .dead κ ∗ mean 𝓤 H A (Kept κ γ xs) ∗ ⟦ finally R γ ys ⟧)
+      (H .⇛ (ex 𝓤 (λ (v : Val). ⟦ Cell v ⟧ ∗ ⟦ Array R n .own (ys ++ after k xs) (v ∷ []) ⟧)))
   first-back κ γ xs ys small l =
       qed W (‵ (fdead κ) ∷ Kept κ γ xs ∷ ‵ (finally R γ ys) ∷ []) ∵ updating ! $ move ! (1 ∷ []) $ split ! $ move ! (2 ∷ 0 ∷ 3 ∷ []) $
       -- [the dead lifetime; the way back; the last list; the elements after]
       use3 W (later (‵ (Arr (mem R) k .lies ys b 0))) (slice-back 𝓤 H A W R κ γ ys k b 0) $ await ! tt $ fsplit ! $ feqL ! (λ e.
       rewrite ! 1 (λ (m : ℕ). ‵ (cells (mem R) (after k xs) b (at 0 (mem R .size) m))) (sym e) refl $
       use2 W (‵ (cells (mem R) (ys ++ after k xs) b 0)) (join-app 𝓤 H A (mem R) ys (after k xs) b 0) $
-      feqI ! ℕ (length (ys ++ after k xs)) n (same-len k xs ys (e ∙ sym (length-take-le k xs (subst (λ (m : ℕ). k ≤ m) (sym l) small))) ∙ l) $ fjoin ! $ at-once ! $ by ! (whole (ys ++ after k xs)))
+      feqI ! ℕ (length (ys ++ after k xs)) n (same-len k xs ys (e ∙ sym (length-take-le k xs (subst (λ (m : ℕ). k ≤ m) (sym l) small))) ∙ l) $ fjoin !
+      $ at-once ! $ by ! (whole (ys ++ after k xs)))

@@ -9,8 +9,10 @@ use native.Mathlib.Decide.{decLt}
 use native.Mathlib.Omega.{arith}
 use borrow.Author.Tests.{leb-true, le-leb, lt-leb}
 use lib.Dec.{T, leb}
-use lib.ListN.{length, getD, set, take, drop}
-use lib.Seq.{set-out, sets, drop-cons}
+use lib.ListN.{length, getD, set, take, drop, length-drop, length-append, List·getD-eq-default}
+use lib.Seq.{set-out, sets, drop-cons, take-at}
+use Rattle.base.specs.Lists.{Each}
+use Rattle.base.proofs.Lists.{each-at}
 use Rattle.octets.specs.Le.{bytesLe}
 use Rattle.octets.specs.Parts.{piece}
 
@@ -23,6 +25,17 @@ sets-past l i (x ∷ xs) h = rw (set-out l i x h) (sets-past l (suc i) xs (omega
 pub sets-append : (l : List ℕ) (i j : ℕ) (xs ys : List ℕ) → i + length xs ≡ j → sets (sets l i xs) j ys ≡ sets l i (xs ++ ys)
 sets-append l i j [] ys e = let f : i ≡ j = omega arith in rw (← f)
 sets-append l i j (x ∷ xs) ys e = sets-append (set l i x) (suc i) j xs ys (omega arith)
+
+-- e is l with xs stored from `at` on, and then with ys after them
+pub record Wrote (l : List ℕ) (at : ℕ) (xs e : List ℕ) : Type 0 where
+  pub is : e ≡ sets l at xs
+
+pub first : (l : List ℕ) (at : ℕ) (xs : List ℕ) {e : List ℕ} → e ≡ sets l at xs → Wrote l at xs e
+first l at xs q = record { is = q }
+
+pub then : {l : List ℕ} {at : ℕ} {xs d e : List ℕ} → Wrote l at xs d → (p : ℕ) (ys : List ℕ) → at + length xs ≡ p → e ≡ sets d p ys
+    → Wrote l at (xs ++ ys) e
+then {l} {at} {xs} w p ys h q = record { is = q ∙ (ap (λ (x : List ℕ). sets x p ys) (w .is) ∙ sets-append l at p xs ys h) }
 
 -- ---- the loop of `put_le`, in the form that `search` applies backwards: what is left to store gives the whole
 module _ (whole : List ℕ) (left x to : ℕ) where
@@ -92,3 +105,38 @@ pub piece-take : (n : ℕ) (s : List ℕ) (p : ℕ) → p + n ≤ length s → p
 unfolding piece
 piece-take zero s p h = refl
 piece-take (suc n) s p h = rw (drop-cons s p 0 (omega arith), piece-take n s (suc p) (omega arith))
+
+-- what stands at p is the piece from there
+pub piece-at : (s : List ℕ) (p n : ℕ) (xs t : List ℕ) → drop p s ≡ xs ++ t → length xs ≡ n → piece n s p ≡ xs
+unfolding piece
+piece-at s p zero [] t e l = refl
+piece-at s p zero (x ∷ xs) t e l = absurd (omega arith)
+piece-at s p (suc n) xs t e l =
+    piece-take (suc n) s p (omega (arith, length-drop p s, ap length e, length-append xs t)) ∙ (ap (take (suc n)) e ∙ take-at xs t (suc n) l)
+
+-- a piece in two
+pub piece-split : (n k m : ℕ) (s : List ℕ) (p q : ℕ) → n + k ≡ m → p + n ≡ q → piece m s p ≡ piece n s p ++ piece k s q
+unfolding piece
+piece-split zero k m s p q h l =
+    let e : k ≡ m = omega arith in
+    let f : p ≡ q = omega arith in
+    rw (e, f)
+piece-split (suc n) k zero s p q h l = absurd (omega arith)
+piece-split (suc n) k (suc m) s p q h l = ap (λ (t : List ℕ). getD s p 0 ∷ t) (piece-split n k m s (suc p) q (omega arith) (omega arith))
+
+pub piece-get : (n : ℕ) (s : List ℕ) (p i : ℕ) → i < n → getD (piece n s p) i 0 ≡ getD s (p + i) 0
+unfolding piece
+piece-get zero s p i h = absurd (omega arith)
+piece-get (suc n) s p zero h = rw (add-zero p)
+piece-get (suc n) s p (suc i) h =
+    let e : suc p + i ≡ p + suc i = omega arith in
+    piece-get n s (suc p) i (omega arith) ∙ ap (λ (j : ℕ). getD s j 0) e
+
+pub each-piece : (P : ℕ → Type 0) → P 0 → (n : ℕ) (s : List ℕ) (p : ℕ) → Each P s → Each P (piece n s p)
+unfolding piece
+each-piece P z zero s p h = tt
+each-piece P z (suc n) s p h = (go (decLt p (length s)), each-piece P z n s (suc p) h)
+  where
+    go : Dec (p < length s) → P (getD s p 0)
+    go (yes l) = each-at P s h p 0 l
+    go (no l) = subst P (sym (List·getD-eq-default s 0 (omega arith))) z

@@ -10,7 +10,7 @@ all = runs inStructs
 pub struct-runs : StructRuns
 struct-runs =
     record {
-      q5 = record { written = λ x room long. all .q5 .left x room long .legs-written };
-      q6 = record { written = λ x room long. all .q6 .left x room long .legs-written };
-      q8 = record { written = λ x room long. all .q8 .left x room long .legs-written };
+      q5 = record { written = λ x long. all .q5 .left x long .legs-written };
+      q6 = record { written = λ x long. all .q6 .left x long .legs-written };
+      q8 = record { written = λ x long. all .q8 .left x long .legs-written };
     }

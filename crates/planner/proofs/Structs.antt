@@ -1,19 +1,28 @@
 -- The structs made of the bytes are those of the chain's legs. Assumes nothing.
 use mathlib.Core.Path.{_≡_, refl, sym, ap, ap₂, _∙_, subst}
+use mathlib.Core.Bool.{Bool, true}
 use mathlib.Core.List.{List, [], _∷_, _++_, map, append-assoc}
 use Prim.Native.Nat.{ℕ, suc, _+_, _-_, _*_, _≤_, _<_}
 use native.Mathlib.Decide.{decLt}
 use native.Mathlib.Omega.{arith}
-use mathlib.Core.Logic.{inr}
 use lib.ListN.{length, getD, set, drop, length-append}
 use lib.Seq.{sets, sets-eq, getD-append-add}
 use Rattle.base.specs.Lists.{Each}
+use Rattle.base.specs.Tests.{pick}
+use Rattle.base.specs.Compare.{less}
+use Rattle.base.specs.Sizes.{_for_}
+use Rattle.base.specs.Shorter.{anyShort}
+use Rattle.base.proofs.Sizes.{short-past, short-on}
 use Rattle.reversal.specs.Chains as chains
 use Rattle.reversal.specs.Answers.{Answer}
+use Rattle.book.specs.Lent.{Lent, sizes}
+use Rattle.reader.specs.Contract.{lentBy}
+use Rattle.checker.specs.Contract.{checkBy}
 use Rattle.assembly.specs.declared.Assembly.{Assembly}
-use Rattle.assembly.specs.Assembles.{refusal, resultOf, legsBytes, inBytes}
-use Rattle.assembly.specs.Contract.{roomBy, assembleBy, AssembleAs}
-use Rattle.assembly.proofs.Room.{either-short, legs-enough}
+use Rattle.assembly.specs.Lent.{legsBytes, inBytes, Room, AllLent, allLent, allSizes}
+use Rattle.assembly.specs.Assembles.{refusal, resultOf}
+use Rattle.assembly.specs.Contract.{plannedBy, assembleBy, roomOf, AssembleAs}
+use Rattle.assembly.proofs.Room.{some-short}
 use Rattle.assembly.proofs.Exactly.{Even, even-bytes, Outcome, refused, given, outcome}
 use Rattle.planner.specs.declared.Leg.{Leg}
 use Rattle.planner.specs.declared.Whole.{Whole}
@@ -74,27 +83,31 @@ chain-structs ls h =
     ∙ structs-in (drop (0 + length (legsBytes ls)) zeros) ls [] 0 refl
 
 -- ---- assembling with bytes
-module _ {book run t d plan : List ℕ} {room : ℕ} (bytes : List ℕ) (h : Each (λ x. x < 256) book) (u : Each (λ x. x < 256) run) where
-  pub whole-short : room < 32 → WholeAs book run t d plan room (record { result = refusal 1 0; bytes = bytes; count = 0 }) t d plan
-  whole-short l =
+module _ {book run : List ℕ} {read : Lent} {plan : List ℕ} {room : ℕ} (bytes : List ℕ) (h : Each (λ x. x < 256) book) (u : Each (λ x. x < 256) run) where
+  pub whole-short : room < 32 → {r : Assembly} → r ≡ refusal 1 0 → WholeAs book run read plan room (record { result = r; bytes = bytes; count = 0 }) read plan
+  whole-short l e =
       record {
         book-bytes = h;
         run-bytes = u;
-        short = λ _. (refl, refl, refl, refl);
+        short = λ _. (e, refl, refl);
         enough = λ k. absurd (omega arith);
-        counted = refl;
+        counted = sym (ap (λ (x : Assembly). x .legs) e);
         within = (omega arith, omega arith);
       }
 
-module _ {book run t d plan : List ℕ} {r : Assembly} {t′ d′ plan′ bytes : List ℕ} (c : AssembleAs inBytes book run t d plan zeros r t′ d′ plan′ bytes) where
+module _ {book run : List ℕ} {read : Lent} {plan : List ℕ} {r : Assembly} {read′ : Lent} {plan′ bytes : List ℕ}
+    (c : AssembleAs inBytes book run (allLent read plan zeros) r (allLent read′ plan′ bytes)) where
+  abbrev Went : Type 1
+  Went = Outcome inBytes book run (allLent read plan zeros)
+
   few : r .legs ≤ 32
   few = go (outcome even-bytes c)
     where
-      go : Outcome inBytes book run t d plan zeros → r .legs ≤ 32
+      go : Went → r .legs ≤ 32
       go (refused code place e) = omega (arith, ap (λ (x : Assembly). x .legs) (c .result ∙ e Assembly refusal resultOf))
       go (given a small e) = omega (arith, ap (λ (x : Assembly). x .legs) (c .result ∙ e Assembly refusal resultOf), small .legs-small, small .legs-counted)
 
-  pub whole-enough : (room : ℕ) → 32 ≤ room → WholeAs book run t d plan room (record { result = r; bytes = bytes; count = r .legs }) t′ d′ plan′
+  pub whole-enough : (room : ℕ) → 32 ≤ room → WholeAs book run read plan room (record { result = r; bytes = bytes; count = r .legs }) read′ plan′
   whole-enough room h =
       record {
         book-bytes = c .bytes;
@@ -106,73 +119,82 @@ module _ {book run t d plan : List ℕ} {r : Assembly} {t′ d′ plan′ bytes 
       }
 
   module _ (legs : List Leg) (l : 32 ≤ length legs) where
-    same-room : {A : Type 0} (refuse fine : A) → roomBy inBytes plan zeros refuse fine ≡ roomBy inStructs plan legs refuse fine
-    same-room refuse fine = legs-enough inBytes plan zeros refuse fine (omega arith) ∙ sym (legs-enough inStructs plan legs refuse fine (omega arith))
+    abbrev lent : AllLent Leg
+    lent = allLent read plan legs
 
     -- the call with structs goes the way of the one with bytes
-    same-way : {A : Type 0} (refuse : ℕ → ℕ → A) (fine : Answer → A)
-        → assembleBy inBytes book run t d plan zeros refuse fine ≡ assembleBy inStructs book run t d plan legs refuse fine
-    unfolding assembleBy
-    same-way refuse fine = same-room _ _
+    same-short : anyShort (allSizes inBytes (allLent read plan zeros)) ≡ anyShort (allSizes inStructs lent)
+    unfolding anyShort
+    same-short = ap (pick (less (length plan) 256) true) (short-past (length zeros for 96) (sizes read) (omega arith) ∙ sym (short-past (length legs for 32) (sizes read) l))
 
-    legs-written : (legs′ : List Leg) → legs′ ≡ sets legs 0 (structsIn bytes (r .legs) 0)
-        → legs′ ≡ assembleBy inBytes book run t d plan zeros (λ code place. legs) (λ a. sets legs 0 (map structOf (a .plan-legs)))
+    same-way : {A : Type 0} (refuse : ℕ → ℕ → A) (fine : Answer → A)
+        → assembleBy inBytes book run (allLent read plan zeros) refuse fine ≡ assembleBy inStructs book run lent refuse fine
+    unfolding assembleBy
+    same-way refuse fine = ap (λ (t : Bool). pick t (refuse 1 0) (checkBy book read refuse (plannedBy run refuse fine))) same-short
+
+    room-written : (legs′ : List Leg) → legs′ ≡ sets legs 0 (structsIn bytes (r .legs) 0)
+        → allLent read′ plan′ legs′ .room ≡ assembleBy inBytes book run (allLent read plan zeros) (λ code place. lent .room) (roomOf inStructs (lent .room))
     unfolding structsIn
-    legs-written legs′ e = go (outcome even-bytes c)
+    room-written legs′ e = go (outcome even-bytes c)
       where
         counted : {x : Assembly} → r ≡ x → legs′ ≡ sets legs 0 (structsIn bytes (x .legs) 0)
         counted q = e ∙ ap (λ (x : Assembly). sets legs 0 (structsIn bytes (x .legs) 0)) q
 
-        go : Outcome inBytes book run t d plan zeros
-            → legs′ ≡ assembleBy inBytes book run t d plan zeros (λ code place. legs) (λ a. sets legs 0 (map structOf (a .plan-legs)))
-        go (refused code place f) = counted (c .result ∙ f Assembly refusal resultOf) ∙ sym (f _ _ _)
-        go (given a small f) =
-            counted (c .result ∙ f Assembly refusal resultOf)
-            ∙ ap (λ (k : ℕ). sets legs 0 (structsIn bytes k 0)) (sym (small .legs-counted))
-            ∙ ap (λ (x : List ℕ). sets legs 0 (structsIn x (length (a .plan-legs)) 0)) (c .legs-is ∙ f (List ℕ) _ _)
-            ∙ ap (sets legs 0) (chain-structs (a .plan-legs) (small .legs-small))
-            ∙ sym (f (List Leg) _ _)
+        both : {p : List ℕ} {g : List Leg} → plan′ ≡ p → legs′ ≡ g → allLent read′ plan′ legs′ .room ≡ allLent read′ p g .room
+        both x y = ap₂ (λ (p : List ℕ) (g : List Leg). allLent read′ p g .room) x y
 
-    told-enough : (legs′ : List Leg) → legs′ ≡ sets legs 0 (structsIn bytes (r .legs) 0) → AssembleAs inStructs book run t d plan legs r t′ d′ plan′ legs′
+        go : Went → allLent read′ plan′ legs′ .room ≡ assembleBy inBytes book run (allLent read plan zeros) (λ code place. lent .room) (roomOf inStructs (lent .room))
+        go (refused code place f) =
+            both (ap (λ (x : Room ℕ). x .plan) (c .room-is ∙ f (Room ℕ) _ _)) (counted (c .result ∙ f Assembly refusal resultOf)) ∙ sym (f (Room Leg) _ _)
+        go (given a small f) =
+            let w = c .room-is ∙ f (Room ℕ) _ _ in
+            both (ap (λ (x : Room ℕ). x .plan) w)
+            (counted (c .result ∙ f Assembly refusal resultOf)
+            ∙ ap (λ (k : ℕ). sets legs 0 (structsIn bytes k 0)) (sym (small .legs-counted))
+            ∙ ap (λ (x : Room ℕ). sets legs 0 (structsIn (x .legs) (length (a .plan-legs)) 0)) w
+            ∙ ap (sets legs 0) (chain-structs (a .plan-legs) (small .legs-small)))
+            ∙ sym (f (Room Leg) _ _)
+
+    told-enough : (legs′ : List Leg) → legs′ ≡ sets legs 0 (structsIn bytes (r .legs) 0)
+        → AssembleAs inStructs book run lent r (allLent read′ plan′ legs′)
     told-enough legs′ e =
         record {
           bytes = c .bytes;
           run-bytes = c .run-bytes;
           result = c .result ∙ same-way _ _;
-          table-is = c .table-is ∙ same-room _ _;
-          slots-is = c .slots-is ∙ same-room _ _;
-          plan-is = c .plan-is ∙ same-way _ _;
-          legs-is = legs-written legs′ e ∙ same-way _ _;
+          read-is = c .read-is ∙ ap (λ (t : Bool). pick t read (lentBy book read)) same-short;
+          room-is = room-written legs′ e ∙ same-way _ _;
         }
 
 -- fewer than 32 structs
-module _ (book run t d plan : List ℕ) (h : Each (λ x. x < 256) book) (u : Each (λ x. x < 256) run) (legs : List Leg) (l : length legs < 32) where
-  told-short : (r : Assembly) → r ≡ refusal 1 0 → AssembleAs inStructs book run t d plan legs r t d plan legs
+module _ (book run : List ℕ) (l : AllLent Leg) (h : Each (λ x. x < 256) book) (u : Each (λ x. x < 256) run) (few : length (l .room .legs) < 32) where
+  told-short : (r : Assembly) → r ≡ refusal 1 0 → AssembleAs inStructs book run l r l
   unfolding assembleBy
   told-short r e =
+      let s : anyShort (allSizes inStructs l) ≡ true = short-on (allSizes inStructs l) (λ w. omega (arith, w .1 .0)) in
       record {
         bytes = h;
         run-bytes = u;
-        result = e ∙ either-short inStructs plan legs _ _ (inr l);
-        table-is = either-short inStructs plan legs _ _ (inr l);
-        slots-is = either-short inStructs plan legs _ _ (inr l);
-        plan-is = either-short inStructs plan legs _ _ (inr l);
-        legs-is = either-short inStructs plan legs _ _ (inr l);
+        result = e ∙ sym (some-short inStructs l s _ _);
+        read-is = sym (some-short inStructs l s _ _);
+        room-is = sym (some-short inStructs l s _ _);
       }
 
 -- ---- the whole call
-module _ {book run t d plan : List ℕ} {w : Whole} {t′ d′ plan′ : List ℕ} where
-  pub legs-told : (legs legs′ : List Leg) (r : Assembly) → WholeAs book run t d plan (length legs) w t′ d′ plan′ → legs′ ≡ sets legs 0 (structsIn (w .bytes) (w .count) 0)
-      → r ≡ w .result → AssembleAs inStructs book run t d plan legs r t′ d′ plan′ legs′
+module _ {book run : List ℕ} {read : Lent} {plan : List ℕ} {w : Whole} {read′ : Lent} {plan′ : List ℕ} where
+  pub legs-told : (legs legs′ : List Leg) (r : Assembly) → WholeAs book run read plan (length legs) w read′ plan′
+      → legs′ ≡ sets legs 0 (structsIn (w .bytes) (w .count) 0) → r ≡ w .result → AssembleAs inStructs book run (allLent read plan legs) r (allLent read′ plan′ legs′)
   unfolding structsIn
   legs-told legs legs′ r a e f = go (decLt (length legs) 32)
     where
       legs-are : legs′ ≡ sets legs 0 (structsIn (w .bytes) (w .result .legs) 0)
       legs-are = e ∙ ap (λ (k : ℕ). sets legs 0 (structsIn (w .bytes) k 0)) (a .counted)
 
-      go : Dec (length legs < 32) → AssembleAs inStructs book run t d plan legs r t′ d′ plan′ legs′
+      go : Dec (length legs < 32) → AssembleAs inStructs book run (allLent read plan legs) r (allLent read′ plan′ legs′)
       go (yes h) =
-          let (p, et, ed, ep) = a .short h in
+          let (p, er, ep) = a .short h in
           let none : legs′ ≡ legs = legs-are ∙ ap (λ (x : Assembly). sets legs 0 (structsIn (w .bytes) (x .legs) 0)) p in
-          rw (et, ed, ep, none) (told-short book run t d plan (a .book-bytes) (a .run-bytes) legs h r (f ∙ p))
-      go (no h) = subst (λ (x : Assembly). AssembleAs inStructs book run t d plan legs x t′ d′ plan′ legs′) (sym f) (told-enough (a .enough (omega arith)) legs (omega arith) legs′ legs-are)
+          rw (er, ep, none) (told-short book run (allLent read plan legs) (a .book-bytes) (a .run-bytes) h r (f ∙ p))
+      go (no h) =
+          subst (λ (x : Assembly). AssembleAs inStructs book run (allLent read plan legs) x (allLent read′ plan′ legs′)) (sym f)
+          (told-enough (a .enough (omega arith)) legs (omega arith) legs′ legs-are)

@@ -2,13 +2,14 @@
 use mathlib.Core.List.{List, [], _∷_}
 use Prim.Native.Nat.{ℕ}
 use Rattle.base.specs.Lists.{Written}
+use Rattle.base.specs.Sizes.{LongEnough}
 use Rattle.reversal.specs.Runs.{Run}
 use Rattle.reversal.specs.Twelve.{run}
 use Rattle.book.specs.Example.{bytesQ}
-use Rattle.reader.specs.Reads.{Long}
 use Rattle.runs.specs.RunBytes.{runBytes}
 use Rattle.assembly.specs.declared.Assembly.{Assembly}
-use Rattle.assembly.specs.Assembles.{Room, Assembles}
+use Rattle.assembly.specs.Lent.{AllLent, allSizes}
+use Rattle.assembly.specs.Assembles.{Assembles}
 use Rattle.planner.specs.declared.Leg.{Leg}
 use Rattle.planner.specs.Structs.{inStructs}
 
@@ -17,9 +18,8 @@ leg item upper lower = record { item = item; upper = upper; lower = lower }
 
 -- in buffers that are long enough: the structs written, and all others kept
 pub record StructsGiven (u : Run) (ls : List Leg) : Type 0 where
-  pub written : {table slots plan : List ℕ} {legs : List Leg} {r : Assembly} {table′ slots′ plan′ : List ℕ} {legs′ : List Leg}
-      → Assembles inStructs bytesQ (runBytes u) table slots plan legs r table′ slots′ plan′ legs′ → Room inStructs plan legs → Long table slots
-      → Written ls legs legs′
+  pub written : {l : AllLent Leg} {r : Assembly} {l′ : AllLent Leg} → Assembles inStructs bytesQ (runBytes u) l r l′
+      → LongEnough (allSizes inStructs l) → Written ls (l .room .legs) (l′ .room .legs)
 
 pub record StructRuns : Type 0 where
   pub q5 : StructsGiven (run (2 ∷ 1 ∷ []) (7 ∷ 7 ∷ 7 ∷ [])) (leg 2 2 0 ∷ [])

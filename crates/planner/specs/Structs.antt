@@ -1,7 +1,7 @@
 -- The lent legs as structs (01: "then a thin function that writes 32 lent leg structs"), for the reader. Assumes nothing: these are definitions.
 use mathlib.Core.List.{map}
 use Rattle.reversal.specs.Chains as chains
-use Rattle.assembly.specs.Assembles.{LegForm}
+use Rattle.assembly.specs.Lent.{LegForm}
 use Rattle.planner.specs.declared.Leg.{Leg}
 
 -- "Each leg is an item number, its upper point and its lower point"

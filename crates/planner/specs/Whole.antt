@@ -4,7 +4,9 @@ use mathlib.Core.List.{List, [], _∷_}
 use Prim.Native.Nat.{ℕ, zero, suc, _+_, _*_, _≤_, _<_}
 use lib.ListN.{getD, replicate}
 use Rattle.base.specs.Lists.{Each}
-use Rattle.assembly.specs.Assembles.{refusal, inBytes}
+use Rattle.book.specs.Lent.{Lent}
+use Rattle.assembly.specs.Lent.{inBytes, allLent}
+use Rattle.assembly.specs.Assembles.{refusal}
 use Rattle.assembly.specs.Contract.{AssembleAs}
 use Rattle.planner.specs.declared.Leg.{Leg}
 use Rattle.planner.specs.declared.Whole.{Whole}
@@ -23,10 +25,10 @@ abbrev pub zeros : List ℕ
 zeros = replicate 96 0
 
 -- assembling where there is room for 32 structs; else code 1, and all untouched
-pub record WholeAs (book run t d plan : List ℕ) (room : ℕ) (w : Whole) (t′ d′ plan′ : List ℕ) : Type 0 where
+pub record WholeAs (book run : List ℕ) (read : Lent) (plan : List ℕ) (room : ℕ) (w : Whole) (read′ : Lent) (plan′ : List ℕ) : Type 0 where
   pub book-bytes : Each (λ x. x < 256) book
   pub run-bytes : Each (λ x. x < 256) run
-  pub short : room < 32 → (w .result ≡ refusal 1 0) × (t′ ≡ t) × (d′ ≡ d) × (plan′ ≡ plan)
-  pub enough : 32 ≤ room → AssembleAs inBytes book run t d plan zeros (w .result) t′ d′ plan′ (w .bytes)
+  pub short : room < 32 → (w .result ≡ refusal 1 0) × (read′ ≡ read) × (plan′ ≡ plan)
+  pub enough : 32 ≤ room → AssembleAs inBytes book run (allLent read plan zeros) (w .result) (allLent read′ plan′ (w .bytes))
   pub counted : w .count ≡ w .result .legs
   pub within : (w .count ≤ room) × (w .count ≤ 32)

@@ -13,21 +13,23 @@ ghost use Rattle.reader.specs.Contract.{ReadAs};
 ghost use Rattle.checker.specs.Contract.{CheckAs};
 ghost use Rattle.writer.specs.Contract.{WriteAs};
 ghost use Rattle.assembly.specs.Contract.{AssembleAs};
-ghost use Rattle.assembly.specs.Assembles.{inBytes};
+ghost use Rattle.assembly.specs.Lent.{inBytes, allLent};
 ghost use Rattle.planner.specs.Structs.{inStructs};
 ghost use Rattle.planner.specs.Whole.{legAt, structsIn, WholeAs};
 ghost use Rattle.ridge.specs.Computed.{lookupOf};
 
 #[no_mangle]
 pub extern "C" fn rollback_read(book: &[u8], table: &mut [u64], slots: &mut [u8]) -> Reading
-    ensures { λ r. ⌜ ReadAs (now (book .entry)) (now (table .entry)) (now (slots .entry)) r (now (table .exit)) (now (slots .exit)) ⌝ }
+    ensures { λ r. ⌜ ReadAs (now (book .entry)) (lent (now (table .entry)) (now (slots .entry))) r
+        (lent (now (table .exit)) (now (slots .exit))) ⌝ }
 {
     reader::read(book, table, slots)
 }
 
 #[no_mangle]
 pub extern "C" fn rollback_check(book: &[u8], table: &mut [u64], slots: &mut [u8]) -> Reading
-    ensures { λ r. ⌜ CheckAs (now (book .entry)) (now (table .entry)) (now (slots .entry)) r (now (table .exit)) (now (slots .exit)) ⌝ }
+    ensures { λ r. ⌜ CheckAs (now (book .entry)) (lent (now (table .entry)) (now (slots .entry))) r
+        (lent (now (table .exit)) (now (slots .exit))) ⌝ }
 {
     checker::check(book, table, slots)
 }
@@ -41,7 +43,9 @@ pub extern "C" fn rollback_assemble(
     plan: &mut [u8],
     legs: &mut [u8],
 ) -> Assembly
-    ensures { λ r. ⌜ AssembleAs inBytes (now (book .entry)) (now (run .entry)) (now (table .entry)) (now (slots .entry)) (now (plan .entry)) (now (legs .entry)) r (now (table .exit)) (now (slots .exit)) (now (plan .exit)) (now (legs .exit)) ⌝ }
+    ensures { λ r. ⌜ AssembleAs inBytes (now (book .entry)) (now (run .entry))
+        (allLent (lent (now (table .entry)) (now (slots .entry))) (now (plan .entry)) (now (legs .entry))) r
+        (allLent (lent (now (table .exit)) (now (slots .exit))) (now (plan .exit)) (now (legs .exit))) ⌝ }
 {
     assembly::assemble(book, run, table, slots, plan, legs)
 }
@@ -91,19 +95,14 @@ fn assemble_whole(
     plan: &mut [u8],
     room: usize,
 ) -> Whole
-    ensures { λ r. ⌜ WholeAs (now (book .entry)) (now (run .entry)) (now (table .entry)) (now (slots .entry)) (now (plan .entry)) room r (now (table .exit)) (now (slots .exit)) (now (plan .exit)) ⌝ }
+    ensures { λ r. ⌜ WholeAs (now (book .entry)) (now (run .entry))
+        (lent (now (table .entry)) (now (slots .entry))) (now (plan .entry)) room r
+        (lent (now (table .exit)) (now (slots .exit))) (now (plan .exit)) ⌝ }
 {
     let mut bytes = [0u8; 96];
     if room < 32 {
-        let refused = Assembly {
-            code: 1,
-            place: 0,
-            commands: 0,
-            legs: 0,
-            fewest: [65535u16; 33],
-        };
         return Whole {
-            result: refused,
+            result: assembly::refused(1, 0),
             bytes: bytes,
             count: 0,
         };
@@ -117,11 +116,10 @@ fn assemble_whole(
 }
 
 // The leg of the three bytes from 3 * i on.
-fn leg_of(w: Whole, i: usize) -> Leg
+fn leg_of(s: [u8; 96], i: usize) -> Leg
     requires { ⌜ i < 32 ⌝ }
-    ensures { λ r. ⌜ r ≡ legAt (w .bytes) i ⌝ }
+    ensures { λ r. ⌜ r ≡ legAt s i ⌝ }
 {
-    let s = w.bytes;
     Leg {
         item: s[3 * i],
         upper: s[3 * i + 1],
@@ -143,7 +141,7 @@ fn fill_legs(legs: &mut [Leg], w: Whole)
     let n = w.count;
     let mut i: usize = 0;
     while i < n {
-        legs[i] = leg_of(w, i);
+        legs[i] = leg_of(w.bytes, i);
         i = i + 1;
     }
 }
@@ -158,7 +156,9 @@ pub extern "C" fn rollback_assemble_legs(
     plan: &mut [u8],
     legs: &mut [Leg],
 ) -> Assembly
-    ensures { λ r. ⌜ AssembleAs inStructs (now (book .entry)) (now (run .entry)) (now (table .entry)) (now (slots .entry)) (now (plan .entry)) (now (legs .entry)) r (now (table .exit)) (now (slots .exit)) (now (plan .exit)) (now (legs .exit)) ⌝ }
+    ensures { λ r. ⌜ AssembleAs inStructs (now (book .entry)) (now (run .entry))
+        (allLent (lent (now (table .entry)) (now (slots .entry))) (now (plan .entry)) (now (legs .entry))) r
+        (allLent (lent (now (table .exit)) (now (slots .exit))) (now (plan .exit)) (now (legs .exit))) ⌝ }
 {
     let w = assemble_whole(book, run, table, slots, plan, legs.len());
     fill_legs(legs, w);

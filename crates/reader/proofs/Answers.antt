@@ -1,61 +1,68 @@
--- The ways through the tests of reading, for the result and each buffer alike, and for the contract. Assumes nothing.
-use mathlib.Core.Path.{_≡_, refl, _∙_}
+-- The ways through the tests of reading, for the result and the buffers alike, and for the contract. Assumes nothing.
+use mathlib.Core.Path.{_≡_, refl, sym, _∙_}
+use mathlib.Core.Bool.{Bool, true, false}
 use mathlib.Core.List.{List}
-use Prim.Native.Nat.{ℕ, _≤_, _<_}
-use lib.ListN.{length}
+use Prim.Native.Nat.{ℕ, _<_}
 use Rattle.base.specs.Lists.{Each}
-use Rattle.base.proofs.Picks.{less-yes, less-no}
+use Rattle.base.specs.Tests.{pick}
+use Rattle.base.specs.Sizes.{LongEnough}
+use Rattle.base.specs.Shorter.{anyShort}
+use Rattle.base.proofs.Sizes.{long-off, off-long}
 use Rattle.book.specs.Book.{Book}
-use Rattle.book.specs.Parse.{parse}
+use Rattle.book.specs.Lent.{Lent, sizes}
+use Rattle.book.specs.Parse.{Parsed, parse}
 use Rattle.book.specs.Parse.Parsed.{Ok, Refused}
-use Rattle.book.specs.Buffers.{tableOf, slotsOf}
+use Rattle.book.specs.Buffers.{lentOf}
 use Rattle.reader.specs.declared.Reading.{Reading}
 use Rattle.reader.specs.Reads.{refusal, done}
-use Rattle.reader.specs.Contract.{readBy, ReadAs}
+use Rattle.reader.specs.Contract.{onParsed, readBy, ReadAs}
 
-module _ {A : Type 0} (s t d : List ℕ) (refuse : ℕ → ℕ → A) (fine : Book → A) where
-  pub short-table : length t < 2048 → refuse 1 0 ≡ readBy s t d refuse fine
-  unfolding readBy
-  short-table h = less-yes _ _ _ (length t) 2048 h refl
+-- which way reading goes
+pub data Way (s : List ℕ) (l : Lent) : Type 0 where
+  by-short : anyShort (sizes l) ≡ true → Way s l
+  by-fault : LongEnough (sizes l) → (code place : ℕ) → parse s ≡ Refused code place → Way s l
+  by-book : LongEnough (sizes l) → (b : Book) → parse s ≡ Ok b → Way s l
 
-  pub short-slots : 2048 ≤ length t → length d < 2176 → refuse 1 0 ≡ readBy s t d refuse fine
-  unfolding readBy
-  short-slots l h = less-no _ _ _ (length t) 2048 l (less-yes _ _ _ (length d) 2176 h refl)
+pub way : (s : List ℕ) (l : Lent) → Way s l
+way s l = go (anyShort (sizes l)) refl (parse s) refl
+  where
+    go : (t : Bool) → anyShort (sizes l) ≡ t → (p : Parsed) → parse s ≡ p → Way s l
+    go true h p e = by-short h
+    go false h (Ok b) e = by-book (off-long (sizes l) h) b e
+    go false h (Refused code place) e = by-fault (off-long (sizes l) h) code place e
 
-  pub faulty : 2048 ≤ length t → 2176 ≤ length d → (code place : ℕ) → parse s ≡ Refused code place → refuse code place ≡ readBy s t d refuse fine
-  unfolding readBy
-  faulty l h code place e = less-no _ _ _ (length t) 2048 l (less-no _ _ _ (length d) 2176 h (rw e))
+-- what each way gives, for the result and the buffers alike
+module _ {A : Type 0} (s : List ℕ) (l : Lent) (refuse : ℕ → ℕ → A) (found : Book → A) where
+  pub when-short : anyShort (sizes l) ≡ true → readBy s l refuse found ≡ refuse 1 0
+  unfolding readBy pick
+  when-short h = rw h refl
 
-  pub fine-book : 2048 ≤ length t → 2176 ≤ length d → (b : Book) → parse s ≡ Ok b → fine b ≡ readBy s t d refuse fine
-  unfolding readBy
-  fine-book l h b e = less-no _ _ _ (length t) 2048 l (less-no _ _ _ (length d) 2176 h (rw e))
+  pub when-faulty : LongEnough (sizes l) → (code place : ℕ) → parse s ≡ Refused code place → readBy s l refuse found ≡ refuse code place
+  unfolding readBy pick
+  when-faulty h code place e = rw (long-off (sizes l) h) (rw e refl)
+
+  pub when-fine : LongEnough (sizes l) → (b : Book) → parse s ≡ Ok b → readBy s l refuse found ≡ found b
+  unfolding readBy pick
+  when-fine h b e = rw (long-off (sizes l) h) (rw e refl)
+
+  -- a caller that tests the lengths beforehand tests them once more
+  pub tested-again : pick (anyShort (sizes l)) (refuse 1 0) (readBy s l refuse found) ≡ readBy s l refuse found
+  unfolding readBy pick
+  tested-again = go (anyShort (sizes l)) (onParsed (parse s) refuse found)
+    where
+      go : (t : Bool) (x : A) → pick t (refuse 1 0) (pick t (refuse 1 0) x) ≡ pick t (refuse 1 0) x
+      go true x = refl
+      go false x = refl
 
 -- ---- the contract, way by way
-module _ (s t d : List ℕ) (bytes : Each (λ x. x < 256) s) where
-  pub as-short-table : length t < 2048 → ReadAs s t d (refusal 1 0) t d
-  as-short-table h =
-      record { bytes = bytes; result = short-table s t d _ _ h; table = short-table s t d _ _ h; slots = short-table s t d _ _ h }
+module _ (s : List ℕ) (l : Lent) (bytes : Each (λ x. x < 256) s) where
+  pub as-short : anyShort (sizes l) ≡ true → (r : Reading) → r ≡ refusal 1 0 → ReadAs s l r l
+  as-short h r x = record { bytes = bytes; result = x ∙ sym (when-short s l _ _ h); buffers = sym (when-short s l _ _ h) }
 
-  module _ (l : 2048 ≤ length t) where
-    pub as-short-slots : length d < 2176 → ReadAs s t d (refusal 1 0) t d
-    as-short-slots h =
-        record { bytes = bytes; result = short-slots s t d _ _ l h; table = short-slots s t d _ _ l h; slots = short-slots s t d _ _ l h }
+  module _ (h : LongEnough (sizes l)) where
+    pub as-faulty : (code place : ℕ) → parse s ≡ Refused code place → (r : Reading) → r ≡ refusal code place → ReadAs s l r l
+    as-faulty code place e r x =
+        record { bytes = bytes; result = x ∙ sym (when-faulty s l _ _ h code place e); buffers = sym (when-faulty s l _ _ h code place e) }
 
-    module _ (h : 2176 ≤ length d) where
-      pub as-faulty : (code place : ℕ) → parse s ≡ Refused code place → ReadAs s t d (refusal code place) t d
-      as-faulty code place e =
-          record {
-            bytes = bytes;
-            result = faulty s t d _ _ l h code place e;
-            table = faulty s t d _ _ l h code place e;
-            slots = faulty s t d _ _ l h code place e;
-          }
-
-      pub as-book : (b : Book) → parse s ≡ Ok b → (r : Reading) (t′ d′ : List ℕ) → r ≡ done b → t′ ≡ tableOf b t → d′ ≡ slotsOf b d → ReadAs s t d r t′ d′
-      as-book b e r t′ d′ x y z =
-          record {
-            bytes = bytes;
-            result = x ∙ fine-book s t d _ _ l h b e;
-            table = y ∙ fine-book s t d _ _ l h b e;
-            slots = z ∙ fine-book s t d _ _ l h b e;
-          }
+    pub as-book : (b : Book) → parse s ≡ Ok b → (r : Reading) (l′ : Lent) → r ≡ done b → l′ ≡ lentOf b l → ReadAs s l r l′
+    as-book b e r l′ x y = record { bytes = bytes; result = x ∙ sym (when-fine s l _ _ h b e); buffers = y ∙ sym (when-fine s l _ _ h b e) }

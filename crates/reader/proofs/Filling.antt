@@ -1,17 +1,16 @@
 -- What is stored is the book's table and slots: what is left of its moves and items gives the whole. Assumes nothing.
 use mathlib.Core.Path.{_≡_, refl, sym, ap, ap₂, _∙_}
-use mathlib.Core.List.{List, [], _∷_, _++_, map, append-assoc, append-nil}
-use Prim.Native.Nat.{ℕ, _+_, _-_, _*_, _^_, _≤_, _<_, min}
+use mathlib.Core.List.{List, [], _∷_, _++_, map, append-nil}
+use Prim.Native.Nat.{ℕ, _+_, _*_, _^_, _≤_, _<_}
 use native.Mathlib.Numerals.{add-one}
 use native.Mathlib.Omega.{arith}
-use lib.ListN.{length, getD, drop, replicate, drop-of-length-le}
+use lib.ListN.{length, getD, drop, drop-of-length-le}
 use lib.Seq.{sets, drop-drop, drop-cons, getD-drop}
 use Rattle.base.specs.Lists.{Each}
-use Rattle.base.proofs.Lists.{each-at}
 use Rattle.octets.specs.Le.{bytesLe}
-use Rattle.octets.specs.Parts.{leAt, piece}
-use Rattle.octets.proofs.Put.{sets-append, piece-take}
-use Rattle.reversal.specs.Reversal.{Item, AllowedItem}
+use Rattle.octets.specs.Parts.{leAt}
+use Rattle.octets.proofs.Put.{sets-append}
+use Rattle.reversal.specs.Reversal.{Item}
 use Rattle.reversal.specs.Chains.{absent, item}
 use Rattle.book.specs.declared.State.{State}
 use Rattle.book.specs.declared.Scan.the-variants.{Read, Fault}
@@ -19,7 +18,7 @@ use Rattle.book.specs.Book.{Move, Book, AllowedMove, AllowedBook, deviceOf, fra
 use Rattle.book.specs.Parse.{Row, cutAfter, cut, movesIn, itemsIn, parse, scan, atStart}
 use Rattle.book.specs.Parse.Row.{End}
 use Rattle.book.specs.Parse.Parsed.{Ok, Refused}
-use Rattle.book.specs.Lent.{padded, slotOf, slotsBytes}
+use Rattle.book.specs.Lent.{slotOf, slotsBytes}
 use Rattle.book.specs.Buffers.{zeroed, filled, tableOf, slotsOf}
 use Rattle.book.proofs.Fields.{mask-fits}
 use Rattle.book.proofs.Bodies.{first-eight}
@@ -27,11 +26,11 @@ use Rattle.book.proofs.Cut.{onto}
 use Rattle.book.proofs.Scanning.{cut-book, stateOf}
 use Rattle.book.proofs.Reading.{scan-whole, parse-fine}
 use Rattle.book.proofs.Slots.{length-slot}
-use Rattle.items.specs.declared.Place.{Place}
-use Rattle.items.specs.Items.{Begins, ItemStands, Fields}
+use Rattle.items.specs.Items.{Begins, ItemStands}
+use Rattle.items.proofs.Laws.{allowed}
 use Rattle.items.proofs.Walk.{kind-at, past-move, no-move, one-more, all-passed}
 use Rattle.reader.specs.Reads.{done}
-use Rattle.reader.specs.Filling.{moveStored, slotHead, slotTail, slotAt}
+use Rattle.reader.specs.Filling.{moveStored}
 
 -- ---- the device
 module _ (s : List ℕ) (b : Book) (e : bytesOf b ≡ s) where
@@ -108,37 +107,6 @@ module _ {s : List ℕ} {b : Book} {whole : List ℕ} {at : ℕ} {table : List �
     pub at-items : Begins s b 0 at
     at-items = rw none-left at (g .rest)
 
--- ---- the slot of an item
-module _ (s : List ℕ) (at : ℕ) (p : Place) (x : Item) (f : Fields s at p x) where
-  counts : piece 2 s (at + 4) ≡ p .k ∷ p .r ∷ []
-  counts = piece-take 2 s (at + 4) (omega (arith, f .within)) ∙ f .counts-are
-
-  forward : piece (p .k) s (at + 6) ≡ x .forward
-  forward = piece-take (p .k) s (at + 6) (omega (arith, f .within)) ∙ f .forward-is
-
-  reverse : piece (p .r) s (at + 6 + p .k) ≡ x .reverse
-  reverse = piece-take (p .r) s (at + 6 + p .k) (omega (arith, f .within)) ∙ f .reverse-is
-
-  masks : piece 16 s (at + 6 + p .k + p .r) ≡ bytesLe 8 (x .phi) ++ bytesLe 8 (x .psi)
-  masks = piece-take 16 s (at + 6 + p .k + p .r) (omega (arith, f .within)) ∙ f .masks-are
-
-  head-is : slotHead s at (p .k) ≡ length (x .forward) ∷ length (x .reverse) ∷ padded (x .forward)
-  unfolding slotHead
-  head-is = rw (counts, forward, f .k-is, f .r-is)
-
-  tail-is : slotTail s at (p .k) (p .r) ≡ padded (x .reverse) ++ (bytesLe 8 (x .phi) ++ bytesLe 8 (x .psi))
-  unfolding slotTail
-  tail-is =
-      rw (reverse, masks, f .r-is)
-      (sym (append-assoc (x .reverse) (replicate (8 - length (x .reverse)) 0) (bytesLe 8 (x .phi) ++ bytesLe 8 (x .psi))))
-
-  slot-is : length (x .forward) ≤ 8 → length (x .reverse) ≤ 8 → slotAt s at (p .k) (p .r) ≡ slotOf x
-  unfolding slotAt
-  slot-is h g =
-      let k : min (p .k) 8 ≡ p .k = omega (arith, f .k-is) in
-      let r : min (p .r) 8 ≡ p .r = omega (arith, f .r-is) in
-      rw (k, r) (ap₂ _++_ head-is tail-is)
-
 -- ---- the pass over the items
 pub record Slotting (s : List ℕ) (b : Book) (whole : List ℕ) (at i : ℕ) (slots : List ℕ) : Type 0 where
   pub known : i ≤ length (b .items)
@@ -152,21 +120,20 @@ module _ {s : List ℕ} {b : Book} {whole : List ℕ} {at i : ℕ} {slots : List
   pub stands : at < length s → ItemStands s b i at
   stands h = one-more a e (g .known) (g .here) h
 
-  pub slotted : (h : at < length s) (p : Place) → Fields s at p (item (b .items) i) → Begins s b (i + 1) (p .next) → (slots′ : List ℕ)
-      → slots′ ≡ sets slots (34 * i) (slotAt s at (p .k) (p .r)) → Slotting s b whole (p .next) (i + 1) slots′
+  pub slotted : (h : at < length s) (next : ℕ) → Begins s b (i + 1) next → (slots′ : List ℕ) → slots′ ≡ sets slots (34 * i) (slotOf (item (b .items) i))
+      → Slotting s b whole next (i + 1) slots′
   unfolding slotsBytes
-  slotted h p f next slots′ q =
+  slotted h next q slots′ e =
       let x = item (b .items) i in
       let l = stands h .known in
-      let al : AllowedItem (deviceOf b) x = each-at (AllowedItem (deviceOf b)) (b .items) (a .each-item) i absent l in
       let rest = slotsBytes (drop (i + 1) (b .items)) in
       let cons : drop i (b .items) ≡ x ∷ drop (i + 1) (b .items) = rw add-one (drop-cons (b .items) i absent l) in
       record {
         known = omega arith;
-        here = next;
+        here = q;
         gives =
-            ap (λ (d : List ℕ). sets d (34 * (i + 1)) rest) (q ∙ ap (sets slots (34 * i)) (slot-is s at p x f (al .most) (al .reverse-most)))
-            ∙ sets-append slots (34 * i) (34 * (i + 1)) (slotOf x) rest (omega (arith, length-slot (deviceOf b) x al))
+            ap (λ (d : List ℕ). sets d (34 * (i + 1)) rest) e
+            ∙ sets-append slots (34 * i) (34 * (i + 1)) (slotOf x) rest (omega (arith, length-slot (deviceOf b) x (allowed (stands h))))
             ∙ ap (λ (xs : List Item). sets slots (34 * i) (slotsBytes xs)) (sym cons)
             ∙ g .gives;
       }

@@ -1,10 +1,10 @@
 -- The table and the slots as the code fills them from the bytes, and what they hold for every allowed book whose bytes these are.
 -- Assumes nothing: these are definitions.
 use mathlib.Core.Path.{_≡_}
-use mathlib.Core.List.{List, _++_}
-use Prim.Native.Nat.{ℕ, _+_, _-_, _*_, min}
-use lib.ListN.{getD, set, replicate}
-use Rattle.octets.specs.Parts.{piece, leAt}
+use mathlib.Core.List.{List}
+use Prim.Native.Nat.{ℕ, _+_, _*_}
+use lib.ListN.{getD, set}
+use Rattle.octets.specs.Parts.{leAt}
 use Rattle.book.specs.Book.{Book, AllowedBook, bytesOf}
 use Rattle.book.specs.Buffers.{tableOf, slotsOf}
 use Rattle.items.specs.Items.{Begins}
@@ -12,18 +12,6 @@ use Rattle.items.specs.Items.{Begins}
 -- the table after the move whose record begins at `at`
 unfoldable pub moveStored : ℕ → List ℕ → ℕ → List ℕ → List ℕ
 moveStored m s at table = set table (getD s (at + 4) 0 * m + getD s (at + 5) 0) (leAt 8 s (at + 6))
-
--- of the item whose record begins at `at`: the counts and k forward commands, with zeros behind them
-unfoldable pub slotHead : List ℕ → ℕ → ℕ → List ℕ
-slotHead s at k = piece 2 s (at + 4) ++ (piece k s (at + 6) ++ replicate (8 - k) 0)
-
--- r reverse commands, with zeros behind them, and the masks
-unfoldable pub slotTail : List ℕ → ℕ → ℕ → ℕ → List ℕ
-slotTail s at k r = piece r s (at + 6 + k) ++ (replicate (8 - r) 0 ++ piece 16 s (at + 6 + k + r))
-
--- its slot, at most 8 commands each way
-unfoldable pub slotAt : List ℕ → ℕ → ℕ → ℕ → List ℕ
-slotAt s at k r = slotHead s at (min k 8) ++ slotTail s at (min k 8) (min r 8)
 
 -- the contract of `fill_table`: bytes s, the table before and after, and where the first item begins
 pub record TableFilled (s table table′ : List ℕ) (r : ℕ) : Type 0 where

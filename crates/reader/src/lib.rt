@@ -9,8 +9,10 @@ use scan::Turn;
 ghost use mathlib.Core.Path.{_≡_};
 ghost use Rattle.book.specs.Parse.{cut, atStart};
 ghost use Rattle.book.specs.Parse as parse;
+ghost use Rattle.book.specs.Lent.{lent};
 ghost use Rattle.reader.specs.Judged.{ScanBounded};
 ghost use Rattle.reader.specs.Filling.{TableFilled, SlotsFilled};
+ghost use Rattle.reader.specs.Reads.{refusal};
 ghost use Rattle.reader.specs.Contract.{ReadAs};
 
 // What reading and checking answer: the code and its place; n, m and the number of items, each 0 on a refusal.
@@ -75,45 +77,39 @@ pub fn fill_slots(book: &[u8], first: usize, slots: &mut [u8])
         if 64 <= i {
             return;
         }
-        let item = items::counts_at(book, at);
-        fill::put_slot(book, at, item.k, item.r, slots, 34 * i);
-        at = item.next;
+        at = slots::fill(book, at, slots, i as u8);
         i = i + 1;
+    }
+}
+
+// A refusal, whose counts are 0.
+pub fn refused(code: u64, place: u64) -> Reading
+    ensures { λ r. ⌜ r ≡ refusal code place ⌝ }
+{
+    Reading {
+        code: code,
+        place: place,
+        n: 0,
+        m: 0,
+        items: 0,
     }
 }
 
 // Reads a book into a table of at least 2,048 entries and slots of at least 2,176 bytes. Nothing is filled before the last record
 // is judged.
 pub fn read(book: &[u8], table: &mut [u64], slots: &mut [u8]) -> Reading
-    ensures { λ r. ⌜ ReadAs (now (book .entry)) (now (table .entry)) (now (slots .entry)) r (now (table .exit)) (now (slots .exit)) ⌝ }
+    ensures { λ r. ⌜ ReadAs (now (book .entry)) (lent (now (table .entry)) (now (slots .entry))) r
+        (lent (now (table .exit)) (now (slots .exit))) ⌝ }
 {
     if table.len() < 2048 {
-        return Reading {
-            code: 1,
-            place: 0,
-            n: 0,
-            m: 0,
-            items: 0,
-        };
+        return refused(1, 0);
     }
     if slots.len() < 2176 {
-        return Reading {
-            code: 1,
-            place: 0,
-            n: 0,
-            m: 0,
-            items: 0,
-        };
+        return refused(1, 0);
     }
     let seen = judge(book);
     match seen {
-        Scan::Fault(code, place) => Reading {
-            code: code,
-            place: place,
-            n: 0,
-            m: 0,
-            items: 0,
-        },
+        Scan::Fault(code, place) => refused(code, place),
         Scan::Read(st) => {
             let first = fill_table(book, table);
             fill_slots(book, first, slots);

@@ -6,6 +6,7 @@ use Prim.Native.Nat.{ℕ, _≤_}
 use native.Mathlib.Omega.{arith}
 use lib.ListN.{length, take, replicate, length-replicate}
 use lib.Seq.{take-all}
+use Rattle.base.specs.Sizes.{LongEnough}
 use Rattle.base.specs.Tests.{pick}
 use Rattle.base.specs.Compare.{less, same}
 use Rattle.octets.specs.Le.{bytesLe}
@@ -15,24 +16,24 @@ use Rattle.book.specs.Book.{frame}
 use Rattle.book.specs.Limits.{allBelow}
 use Rattle.book.specs.Example.{bytesQ}
 use Rattle.book.proofs.Fields.{all-on}
-use Rattle.reader.specs.Reads.{Long}
 use Rattle.runs.specs.RunBytes.{masksBytes, runBytes}
 use Rattle.assembly.specs.declared.Assembly.{Assembly}
-use Rattle.assembly.specs.Assembles.{inBytes, Room, Left}
+use Rattle.assembly.specs.Lent.{inBytes, Room, allSizes}
+use Rattle.assembly.specs.Assembles.{Left}
 use Rattle.assembly.specs.Cases.{BytesGive, Runs}
 use Rattle.assembly.proofs.Exactly.{even-bytes, assembles}
 use Rattle.assembly.proofs.Cases.{runs}
 use Rattle.show.specs.Show.{decimalIn, decimal, line, linesOf}
-use Rattle.report.specs.Prints.{Prints}
-use Rattle.report.specs.Contract.{resultFor, planFor}
+use Rattle.report.specs.Prints.{zeros, Prints}
+use Rattle.report.specs.Contract.{resultFor}
 use Rattle.report.specs.Example.{Examples}
 use Rattle.report.proofs.Exactly.{Zeroed, zeroed}
 
 -- the lines of what a case leaves behind
-left-lines : {a : Answer} {plan legs : List ℕ} {r : Assembly} {plan′ legs′ : List ℕ} → Left inBytes a plan legs r plan′ legs′ → a .commands ≡ length (a .plan-bytes)
-    → linesOf (a .code) 0 (a .commands) (a .leg-count) (a .plan-bytes) ≡ linesOf (r .code) (r .place) (r .commands) (r .legs) (take (r .commands) plan′)
-left-lines {a} {plan} {legs} {r} {plan′} l counted =
-    let front : take (a .commands) plan′ ≡ a .plan-bytes = ap (λ (n : ℕ). take n plan′) counted ∙ l .plan-written .front in
+left-lines : {a : Answer} {room : Room ℕ} {r : Assembly} {room′ : Room ℕ} → Left inBytes a room r room′ → a .commands ≡ length (a .plan-bytes)
+    → linesOf (a .code) 0 (a .commands) (a .leg-count) (a .plan-bytes) ≡ linesOf (r .code) (r .place) (r .commands) (r .legs) (take (r .commands) (room′ .plan))
+left-lines {a} {room} {r} {room′} l counted =
+    let front : take (a .commands) (room′ .plan) ≡ a .plan-bytes = ap (λ (n : ℕ). take n (room′ .plan)) counted ∙ l .plan-written .front in
     rw (l .result-is, front)
 
 -- what a case prints
@@ -42,25 +43,22 @@ module _ (u : Run) (a : Answer) (gives : BytesGive inBytes u a) (short : length 
   unfolding pick less allBelow
   prints-answer =
       let run : take 302 (runBytes u) ≡ runBytes u = take-all 302 (runBytes u) short in
-      let (t, (d, (legs, c))) = zeroed bytesQ (runBytes u) (all-on 256 bytesQ refl) (rw run (all-on 256 (runBytes u) bytes)) in
+      let (l, c) = zeroed bytesQ (runBytes u) (all-on 256 bytesQ refl) (rw run (all-on 256 (runBytes u) bytes)) in
       record {
         result = resultFor bytesQ (runBytes u);
-        table = t;
-        slots = d;
-        plan = planFor bytesQ (runBytes u);
-        legs = legs;
+        left = l;
         assembled = assembles even-bytes c;
         lines =
             left-lines
-            (gives .left (assembles even-bytes (subst (λ (s : List ℕ). Zeroed bytesQ s (resultFor bytesQ (runBytes u)) t d (planFor bytesQ (runBytes u)) legs) run c)) room long)
+            (gives .left (assembles even-bytes (subst (λ (s : List ℕ). Zeroed bytesQ s (resultFor bytesQ (runBytes u)) l) run c)) long)
             counted;
       }
     where
-      room : Room inBytes (replicate 256 0) (replicate 96 0)
-      room = (omega (arith, length-replicate {A = ℕ} 256 0), omega (arith, length-replicate {A = ℕ} 96 0))
+      held : (n : ℕ) → n ≤ length {A = ℕ} (replicate n 0)
+      held n = omega (arith, length-replicate {A = ℕ} n 0)
 
-      long : Long (replicate 2048 0) (replicate 2176 0)
-      long = (omega (arith, length-replicate {A = ℕ} 2048 0), omega (arith, length-replicate {A = ℕ} 2176 0))
+      long : LongEnough (allSizes inBytes zeros)
+      long = (held 256, (held 96, (held 2048, (held 2176, tt))))
 
 pub examples : Examples
 unfolding decimalIn decimal line linesOf pick less same frame bytesLe masksBytes allBelow

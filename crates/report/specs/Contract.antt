@@ -1,26 +1,28 @@
 -- The text for a book's and a run's bytes, computed. proofs/Exactly ties it to specs/Prints. Assumes nothing: these are definitions.
 use mathlib.Core.Path.{_≡_}
 use mathlib.Core.List.{List}
-use Prim.Native.Nat.{ℕ, _<_, _≤_}
-use lib.ListN.{length, take, replicate}
+use Prim.Native.Nat.{ℕ, _≤_}
+use lib.ListN.{length, take}
 use lib.Seq.{sets}
 use Rattle.base.specs.Lists.{Bytes}
 use Rattle.reversal.specs.Answers.{Answer}
 use Rattle.assembly.specs.declared.Assembly.{Assembly}
-use Rattle.assembly.specs.Assembles.{inBytes, refusal, resultOf}
-use Rattle.assembly.specs.Contract.{assembleBy}
+use Rattle.assembly.specs.Lent.{inBytes}
+use Rattle.assembly.specs.Assembles.{refusal, resultOf}
+use Rattle.assembly.specs.Contract.{assembleBy, roomOf}
 use Rattle.show.specs.Show.{linesOf, planned}
+use Rattle.report.specs.Prints.{zeros}
 
 -- assembling, of the bytes that are judged and zeroed buffers
 abbrev pub judgedBy : {A : Type 0} → List ℕ → List ℕ → (ℕ → ℕ → A) → (Answer → A) → A
-judgedBy book run = assembleBy inBytes (take 31111 book) (take 302 run) (replicate 2048 0) (replicate 2176 0) (replicate 256 0) (replicate 96 0)
+judgedBy book run = assembleBy inBytes (take 31111 book) (take 302 run) zeros
 
 abbrev pub resultFor : List ℕ → List ℕ → Assembly
 resultFor book run = judgedBy book run refusal resultOf
 
 -- the plan buffer at exit
 abbrev pub planFor : List ℕ → List ℕ → List ℕ
-planFor book run = judgedBy book run (λ code place. replicate 256 0) (λ a. sets (replicate 256 0) 0 (a .plan-bytes))
+planFor book run = judgedBy book run (λ code place. zeros .room) (roomOf inBytes (zeros .room)) .plan
 
 abbrev pub linesFor : Assembly → List ℕ → List ℕ
 linesFor r plan = linesOf (r .code) (r .place) (r .commands) (r .legs) (planned (r .commands) plan)

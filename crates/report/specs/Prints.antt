@@ -4,21 +4,23 @@ use mathlib.Core.List.{List}
 use Prim.Native.Nat.{ℕ, _≤_}
 use lib.ListN.{length, take, replicate}
 use lib.Seq.{sets}
+use Rattle.book.specs.Lent.{lent}
 use Rattle.assembly.specs.declared.Assembly.{Assembly}
-use Rattle.assembly.specs.Assembles.{inBytes, Assembles}
+use Rattle.assembly.specs.Lent.{inBytes, AllLent, allLent}
+use Rattle.assembly.specs.Assembles.{Assembles}
 use Rattle.show.specs.Show.{linesOf}
 
--- "judges at most the first 31,111 bytes of book.bin and 302 of run.bin": what assembling answers for these, in buffers of the stated lengths that
--- hold zeros, as text: "Line 1: code, place, command count, leg count. Line 2, only for code 0: the commands"
+-- buffers of the stated lengths that hold zeros
+abbrev pub zeros : AllLent ℕ
+zeros = allLent (lent (replicate 2048 0) (replicate 2176 0)) (replicate 256 0) (replicate 96 0)
+
+-- "judges at most the first 31,111 bytes of book.bin and 302 of run.bin": what assembling answers for these, in zeroed
+-- buffers, as text: "Line 1: code, place, command count, leg count. Line 2, only for code 0: the commands"
 pub record Prints (book run text : List ℕ) : Type 0 where
   pub result : Assembly
-  pub table : List ℕ
-  pub slots : List ℕ
-  pub plan : List ℕ
-  pub legs : List ℕ
-  pub assembled :
-      Assembles inBytes (take 31111 book) (take 302 run) (replicate 2048 0) (replicate 2176 0) (replicate 256 0) (replicate 96 0) result table slots plan legs
-  pub lines : text ≡ linesOf (result .code) (result .place) (result .commands) (result .legs) (take (result .commands) plan)
+  pub left : AllLent ℕ
+  pub assembled : Assembles inBytes (take 31111 book) (take 302 run) zeros result left
+  pub lines : text ≡ linesOf (result .code) (result .place) (result .commands) (result .legs) (take (result .commands) (left .room .plan))
 
 -- what `report` leaves in the lent row `out`, which is `out′` at exit, and answers: the text, and its length
 pub record Reports (book run out : List ℕ) (r : ℕ) (out′ : List ℕ) : Type 0 where

@@ -1,11 +1,11 @@
 -- The contract says what Writes says, both ways; so what 01 says leaves one answer only. Assumes nothing.
 use mathlib.Core.Path.{_≡_, refl, sym, ap, _∙_, subst}
-use mathlib.Core.Logic.{_⊎_, _↔_, inl, inr}
+use mathlib.Core.Logic.{_⊎_, inl, inr}
 use mathlib.Core.List.{List}
-use Prim.Native.Nat.{ℕ, _-_, _*_, _<_, _≤_}
+use Prim.Native.Nat.{ℕ, _*_, _<_, _≤_}
 use native.Mathlib.Omega.{arith}
 use native.Mathlib.Decide.{decLt}
-use lib.ListN.{length, getD, drop}
+use lib.ListN.{length, getD}
 use lib.Seq.{sets}
 use Rattle.base.specs.Lists.{Bytes}
 use Rattle.base.specs.Sizes.{LongEnough}
@@ -16,19 +16,19 @@ use Rattle.book.specs.Lent.{Lent, Holds}
 use Rattle.base.proofs.Lists.{stored, same-written}
 use Rattle.base.proofs.Sizes.{long-or-not}
 use Rattle.base.proofs.Lowest.{Tells, lowest-wrong, none-wrong, wrong-lowest, wrong-none}
-use Rattle.book.specs.Buffers.{bookFrom, SlotFine, Writable}
+use Rattle.book.specs.Slots.{slotFine}
+use Rattle.book.specs.Buffers.{bookFrom, Writable}
 use Rattle.book.proofs.Limits.{device-or-not}
 use Rattle.book.proofs.Fields.{clear-of, clear-on}
 use Rattle.book.proofs.Largest.{length-book}
-use Rattle.book.proofs.Items.{slot-allowed↔}
+use Rattle.book.proofs.Slots.{slot-allowed↔}
 use Rattle.book.proofs.RoundTrip.{written-allowed, written-holds, held-book, held-writable}
 use Rattle.writer.specs.declared.Writing.{Writing}
-use Rattle.writer.specs.Checks.{slotFine, lowestEntry, lowestSlot}
+use Rattle.writer.specs.Checks.{lowestEntry, lowestSlot}
 use Rattle.writer.specs.Contract.{checked, bookBytes, WriteAs}
 use Rattle.writer.specs.Writes.{buffers, EntryRight, SlotRight, Refuses, refusal, written, BookWritten, Writes}
 use Rattle.writer.specs.Writes.Refuses.{short, device, count, entry, slot}
 use Rattle.writer.specs.Writes.Writes.{refused, done}
-use Rattle.writer.proofs.Slots.{slot-right, slot-passes}
 use Rattle.writer.proofs.Chain.{at-short, at-device, at-count, at-entry, at-slot, at-end}
 
 -- ---- the output
@@ -41,15 +41,12 @@ module _ (n m items : ℕ) (l : Lent) (out : List ℕ) (h : Bytes (l .slots)) wh
   entries-tell : Tells (λ i. clearFrom n (getD (l .table) i 0)) (EntryRight n (l .table)) (n * m)
   entries-tell = record { on = λ i q. clear-on n (getD (l .table) i 0); of = λ i q. clear-of n (getD (l .table) i 0) }
 
-  module _ (long : LongEnough (buffers l out)) (d : AllowedDevice n m) (few : items ≤ 64) where
-    fine↔ : (i : ℕ) → i < items → SlotFine (tabled n m (l .table)) (drop (34 * i) (l .slots)) ↔ SlotRight n m (l .table) (l .slots) i
-    fine↔ i q = slot-allowed↔ (tabled n m (l .table)) (d .n-high) (l .slots) i h (omega (arith, long .1 .0))
-
-    slots-tell : Tells (λ i. slotFine n m (l .slots) (34 * i)) (SlotRight n m (l .table) (l .slots)) items
+  module _ (d : AllowedDevice n m) where
+    slots-tell : Tells (slotFine n m (l .slots)) (SlotRight n m (l .table) (l .slots)) items
     slots-tell =
         record {
-          on = λ i q e. fine↔ i q .0 (slot-right (tabled n m (l .table)) (l .slots) (34 * i) (omega (arith, long .1 .0)) e);
-          of = λ i q p. slot-passes (tabled n m (l .table)) (l .slots) (34 * i) (omega (arith, long .1 .0)) (fine↔ i q .1 p);
+          on = λ i q. slot-allowed↔ (tabled n m (l .table)) (d .n-high) (l .slots) i h .0;
+          of = λ i q. slot-allowed↔ (tabled n m (l .table)) (d .n-high) (l .slots) i h .1;
         }
 
   -- ---- what the chain of tests gives
@@ -63,7 +60,7 @@ module _ (n m items : ℕ) (l : Lent) (out : List ℕ) (h : Bytes (l .slots)) wh
         let e : lowestEntry n (n * m) (l .table) ≡ i = wrong-lowest _ (n * m) entries-tell i w in
         ap (refuse 5) (sym e) ∙ at-entry n m items l out refuse fine long d few (omega (arith, w .inside))
     refused-is (slot {i} long d few f w) =
-        let e : lowestSlot n m items (l .slots) ≡ i = wrong-lowest _ items (slots-tell long d few) i w in
+        let e : lowestSlot n m items (l .slots) ≡ i = wrong-lowest _ items (slots-tell d) i w in
         ap (refuse 5) (sym e)
         ∙ at-slot n m items l out refuse fine long d few (wrong-none _ (n * m) entries-tell f) (omega (arith, w .inside))
 
@@ -71,7 +68,7 @@ module _ (n m items : ℕ) (l : Lent) (out : List ℕ) (h : Bytes (l .slots)) wh
     unfolding lowestEntry lowestSlot
     fine-is long w =
         at-end n m items l out refuse fine long (w .device) (w .few) (wrong-none _ (n * m) entries-tell (w .entries))
-        (wrong-none _ items (slots-tell long (w .device) (w .few)) (λ i q. fine↔ long (w .device) (w .few) i q .0 (w .each-slot i q)))
+        (wrong-none _ items (slots-tell (w .device)) (λ i q. slots-tell (w .device) .on i q (w .each-slot i q)))
 
   -- ---- one of the cases holds
   abbrev pub Judged : Type 0
@@ -83,7 +80,7 @@ module _ (n m items : ℕ) (l : Lent) (out : List ℕ) (h : Bytes (l .slots)) wh
     where
       on-slot : LongEnough (buffers l out) → AllowedDevice n m → items ≤ 64 → ((i : ℕ) → i < n * m → EntryRight n (l .table) i)
           → Dec (lowestSlot n m items (l .slots) < items) → Judged
-      on-slot long d few f (yes q) = inl (5, lowestSlot n m items (l .slots), slot long d few f (lowest-wrong _ items (slots-tell long d few) q))
+      on-slot long d few f (yes q) = inl (5, lowestSlot n m items (l .slots), slot long d few f (lowest-wrong _ items (slots-tell d) q))
       on-slot long d few f (no q) =
           inr (
             long,
@@ -91,7 +88,7 @@ module _ (n m items : ℕ) (l : Lent) (out : List ℕ) (h : Bytes (l .slots)) wh
               device = d;
               few = few;
               entries = f;
-              each-slot = λ i e. fine↔ long d few i e .1 (none-wrong _ items (slots-tell long d few) (omega arith) i e);
+              each-slot = λ i e. slots-tell d .of i e (none-wrong _ items (slots-tell d) (omega arith) i e);
             },
           )
 
@@ -127,7 +124,7 @@ module _ {n m items : ℕ} {l : Lent} {out : List ℕ} where
           (a .output ∙ sym (refused-is n m items l out (a .bytes) _ _ q))
       go (inr (long, w)) =
           done long (bookFrom n m items (l .table) (l .slots)) (written-allowed n m items (l .table) (l .slots) w)
-          (written-holds n m items (l .table) (l .slots) w (long .0) (omega (arith, long .1 .0, w .few)) (a .bytes))
+          (written-holds n m items (l .table) (l .slots) w (long .0) (a .bytes))
           (rw (
             a .result ∙ sym (fine-is n m items l out (a .bytes) _ _ long w),
             a .output ∙ sym (fine-is n m items l out (a .bytes) _ _ long w),

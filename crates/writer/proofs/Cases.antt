@@ -13,11 +13,12 @@ use Rattle.base.specs.Compare.{less}
 use Rattle.base.specs.Masks.{clearFrom}
 use Rattle.base.specs.Shorter.{anyShort}
 use Rattle.octets.specs.Parts.{piece}
-use Rattle.book.specs.Limits.{deviceFine, allBelow}
+use Rattle.book.specs.Limits.{deviceFine, countsFine, allBelow, fieldsFine}
 use Rattle.book.specs.Lent.{Lent}
+use Rattle.book.specs.Slots.{itemAt, slotFine}
 use Rattle.book.proofs.Fields.{all-on}
 use Rattle.writer.specs.declared.Writing.{Writing}
-use Rattle.writer.specs.Checks.{fieldsFine, slotFine, lowestEntry, lowestSlot}
+use Rattle.writer.specs.Checks.{lowestEntry, lowestSlot}
 use Rattle.writer.specs.Contract.{checked}
 use Rattle.writer.specs.Writes.{Refuses, refusal, written}
 use Rattle.writer.specs.Cases.{Spoilt}
@@ -39,7 +40,7 @@ refused-by n m items l out code place b e q = go (judged n m items l out h)
         absurd (omega (arith, ap (λ (w : Writing). w .code) r))
 
 pub spoilt : Spoilt
-unfolding pick both seek less clearFrom anyShort piece deviceFine allBelow fieldsFine slotFine lowestEntry lowestSlot checked
+unfolding pick both seek less clearFrom anyShort piece deviceFine countsFine allBelow fieldsFine itemAt slotFine lowestEntry lowestSlot checked
 spoilt =
     record {
       short-table = refused-by _ _ _ _ _ _ _ refl refl (lit< tt);

@@ -1,7 +1,7 @@
 -- The chain of tests: what it gives in each of 01's cases. Assumes nothing.
 use mathlib.Core.Path.{_≡_, ap}
 use mathlib.Core.Bool.{true, false, not}
-use mathlib.Core.List.{List}
+use mathlib.Core.List.{List, []}
 use Prim.Native.Nat.{ℕ, _*_, _<_, _≤_}
 use native.Mathlib.Omega.{arith}
 use lib.ListN.{getD}
@@ -14,15 +14,18 @@ use Rattle.base.specs.Shorter.{anyShort}
 use Rattle.base.proofs.Sizes.{long-off, short-on}
 use Rattle.base.proofs.Picks.{tests}
 use Rattle.base.proofs.Lowest.{passes}
+use Rattle.reversal.specs.Device.{tabled}
+use Rattle.reversal.specs.Reversal.{AllowedItem}
 use Rattle.book.specs.Book.{AllowedDevice}
 use Rattle.book.specs.Limits.{deviceFine}
 use Rattle.book.specs.Lent.{Lent}
+use Rattle.book.specs.Slots.{itemAt, slotFine}
 use Rattle.book.proofs.Limits.{device-of, device-off}
+use Rattle.book.proofs.Slots.{item-fine}
 use Rattle.writer.specs.Records.{CountsFine}
-use Rattle.writer.specs.Checks.{slotFine, lowestEntry, lowestSlot}
+use Rattle.writer.specs.Checks.{lowestEntry, lowestSlot}
 use Rattle.writer.specs.Contract.{checked}
 use Rattle.writer.specs.Writes.{buffers}
-use Rattle.writer.proofs.Slots.{slot-counts}
 
 module _ (n m items : ℕ) (l : Lent) (out : List ℕ) {A : Type 0} (refuse : ℕ → ℕ → A) (fine : A) where
   pub at-short : (LongEnough (buffers l out) → ⊥) → refuse 1 0 ≡ checked n m items l out refuse fine
@@ -64,9 +67,12 @@ pub counts-fine : (n m c : ℕ) (s : List ℕ) → c ≤ lowestSlot n m c s → 
 unfolding lowestSlot
 counts-fine n m c s h =
     record {
-      forward = λ i l. slot-counts n m s (34 * i) (passes (λ i. slotFine n m s (34 * i)) c i (omega arith) l) .0;
-      reverse = λ i l. slot-counts n m s (34 * i) (passes (λ i. slotFine n m s (34 * i)) c i (omega arith) l) .1;
+      forward = λ i l. right i l .most;
+      reverse = λ i l. right i l .reverse-most;
     }
+  where
+    right : (i : ℕ) → i < c → AllowedItem (tabled n m []) (itemAt s i)
+    right i l = item-fine (tabled n m []) s i (passes (slotFine n m s) c i (omega arith) l)
 
 -- the elements of a slice of bytes are bytes
 pub each-byte : (s : List ℕ) → ((i : ℕ) → Fits w8 (getD s i 0)) → Each (λ x. x < 256) s

@@ -1,7 +1,6 @@
 pub mod Stores
 pub mod Rows
 pub mod Scans
-pub mod Slots
 pub mod Chain
 pub mod Answers
 pub mod RoundTrips

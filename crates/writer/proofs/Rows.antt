@@ -8,14 +8,15 @@ use native.Mathlib.Numerals.{add-one}
 use native.Mathlib.Decide.{decLt}
 use native.Mathlib.Omega.{arith}
 use lib.Arith.{digits-div, digits-mod}
-use lib.ListN.{length, getD, drop, length-append}
-use lib.Seq.{sets, drop-drop}
+use lib.ListN.{length, getD, length-append}
+use lib.Seq.{sets}
 use Rattle.base.specs.Tests.{pick}
 use Rattle.base.specs.Compare.{same}
 use Rattle.base.proofs.Picks.{same-yes, same-no}
 use Rattle.octets.proofs.Put.{sets-append}
 use Rattle.book.specs.Book.{frame, framed, moveRec, itemRec}
-use Rattle.book.specs.Buffers.{moveAt, movesFrom, itemAt, itemsFrom}
+use Rattle.book.specs.Slots.{itemAt}
+use Rattle.book.specs.Buffers.{moveAt, movesFrom, itemsFrom}
 use Rattle.writer.specs.declared.records.Cell.{Cell}
 use Rattle.writer.specs.Records.{move, entryRow, CellAt, entryBytes, movesBytes, itemsBytes}
 
@@ -91,12 +92,6 @@ move-rows t m = record { none = λ i. refl; more = λ k i. go k i (same (getD t 
     go k i true = refl
     go k i false = refl
 
-pub item-rows : (s : List ℕ) → Turns (λ i. frame (itemRec (itemAt (drop (34 * i) s)))) (λ k i. itemsBytes k s i)
+pub item-rows : (s : List ℕ) → Turns (λ i. frame (itemRec (itemAt s i))) (λ k i. itemsBytes k s i)
 unfolding itemsBytes itemsFrom
-item-rows s = record { none = λ i. refl; more = more }
-  where
-    more : (k i : ℕ) → itemsBytes (suc k) s i ≡ frame (itemRec (itemAt (drop (34 * i) s))) ++ itemsBytes k s (suc i)
-    more k i =
-        let e : 34 * i + 34 ≡ 34 * suc i = omega arith in
-        let f : drop 34 (drop (34 * i) s) ≡ drop (34 * suc i) s = drop-drop 34 (34 * i) s ∙ rw e in
-        rw f
+item-rows s = record { none = λ i. refl; more = λ k i. refl }

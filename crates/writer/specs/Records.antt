@@ -2,13 +2,14 @@
 use mathlib.Core.Path.{_≡_}
 use mathlib.Core.List.{List, [], _++_, map}
 use Prim.Native.Nat.{ℕ, _+_, _*_, _<_, _≤_}
-use lib.ListN.{getD, drop}
+use lib.ListN.{length, getD}
 use Rattle.base.specs.Tests.{pick}
 use Rattle.base.specs.Compare.{same}
+use Rattle.reversal.specs.Reversal.{Item}
 use Rattle.octets.specs.Le.{bytesLe}
-use Rattle.octets.specs.Parts.{leAt, piece}
 use Rattle.book.specs.Book.{Move, frame, framed, moveRec, itemRec}
 use Rattle.writer.specs.declared.records.Cell.{Cell}
+use Rattle.book.specs.Slots.{itemAt}
 use Rattle.book.specs.Buffers.{moveAt, movesFrom, itemsFrom}
 
 abbrev pub move : ℕ → ℕ → ℕ → Move
@@ -35,14 +36,14 @@ movesBytes k t i m = framed (map moveRec (movesFrom k t i m))
 unfoldable pub itemHead : ℕ → ℕ → List ℕ
 itemHead k r = bytesLe 2 (18 + k + r) ++ bytesLe 2 3 ++ bytesLe 1 k ++ bytesLe 1 r
 
-unfoldable pub itemTail : List ℕ → ℕ → ℕ → ℕ → List ℕ
-itemTail s q k r = piece k s (q + 2) ++ piece r s (q + 10) ++ bytesLe 8 (leAt 8 s (q + 18)) ++ bytesLe 8 (leAt 8 s (q + 26))
+unfoldable pub itemTail : Item → List ℕ
+itemTail x = x .forward ++ x .reverse ++ bytesLe 8 (x .phi) ++ bytesLe 8 (x .psi)
 
 -- the records of the c slots from slot i on
 unfoldable pub itemsBytes : ℕ → List ℕ → ℕ → List ℕ
-itemsBytes c s i = framed (map itemRec (itemsFrom c (drop (34 * i) s)))
+itemsBytes c s i = framed (map itemRec (itemsFrom c s i))
 
--- each of the first c slots has counts of at most 8
+-- the item in each of the first c slots has at most 8 commands each way
 pub record CountsFine (c : ℕ) (s : List ℕ) : Type 0 where
-  pub forward : (i : ℕ) → i < c → getD s (34 * i) 0 ≤ 8
-  pub reverse : (i : ℕ) → i < c → getD s (34 * i + 1) 0 ≤ 8
+  pub forward : (i : ℕ) → i < c → length (itemAt s i .forward) ≤ 8
+  pub reverse : (i : ℕ) → i < c → length (itemAt s i .reverse) ≤ 8

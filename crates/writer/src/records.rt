@@ -2,10 +2,11 @@
 use crate::checks::entry_at;
 ghost use mathlib.Core.Path.{_≡_};
 ghost use Prim.Native.Nat.{_+_, _*_, _<_, _≤_, _^_};
-ghost use lib.ListN.{length, getD, drop};
+ghost use lib.ListN.{length};
 ghost use lib.Seq.{sets};
 ghost use Rattle.book.specs.Book.{bytesOf, frame, deviceRec, moveRec, itemRec};
-ghost use Rattle.book.specs.Buffers.{itemAt, bookFrom};
+ghost use Rattle.book.specs.Slots.{itemAt};
+ghost use Rattle.book.specs.Buffers.{bookFrom};
 ghost use Rattle.writer.specs.Records.{move, entryRow, movesBytes, CellAt, itemHead, itemTail, itemsBytes, CountsFine};
 
 // The record of the device, from 0 on.
@@ -101,41 +102,41 @@ fn put_head(k: u64, r: u64, d: &mut [u8], at: usize)
     octets::put_le(1, r, d, at + 5);
 }
 
-// The commands and masks of the slot at q, from `at` on.
-fn put_tail(s: &[u8], q: usize, k: usize, r: usize, d: &mut [u8], at: usize)
-    requires { ⌜ (k ≤ 8) × (r ≤ 8) × (q + 34 < 2 ^ 64) × (at + 32 < 2 ^ 64) ⌝ }
-    ensures { λ _. ⌜ now (d .exit) ≡ sets (now (d .entry)) at (itemTail (now (s .entry)) q k r) ⌝ }
+// The commands and masks of the item in slot a, with counts k and r, from `at` on.
+fn put_tail(s: &[u8], a: u8, k: usize, r: usize, d: &mut [u8], at: usize)
+    requires { ⌜ (k ≡ length (itemAt (now s) a .forward)) × (r ≡ length (itemAt (now s) a .reverse)) × (k ≤ 8) × (r ≤ 8) × (at + 32 < 2 ^ 64) ⌝ }
+    ensures { λ _. ⌜ now (d .exit) ≡ sets (now (d .entry)) at (itemTail (itemAt (now (s .entry)) a)) ⌝ }
 {
-    octets::copy(k, s, q + 2, d, at);
-    octets::copy(r, s, q + 10, d, at + k);
-    octets::put_le(8, octets::u64_at(s, q + 18), d, at + k + r);
-    octets::put_le(8, octets::u64_at(s, q + 26), d, at + k + r + 8);
+    slots::put_forward(s, a, k, d, at);
+    slots::put_reverse(s, a, r, d, at + k);
+    octets::put_le(8, slots::phi(s, a), d, at + k + r);
+    octets::put_le(8, slots::psi(s, a), d, at + k + r + 8);
 }
 
-// The record of the item in the slot at q.
-fn put_item(s: &[u8], q: usize, d: &mut [u8], at: usize) -> usize
-    requires { ⌜ (getD (now s) q 0 ≤ 8) × (getD (now s) (q + 1) 0 ≤ 8) × (q + 34 ≤ length (now s)) × (at + 38 < 2 ^ 64) ⌝ }
-    ensures { λ _. ⌜ now (d .exit) ≡ sets (now (d .entry)) at (frame (itemRec (itemAt (drop q (now (s .entry)))))) ⌝ }
-    ensures { λ r. ⌜ r ≡ at + length (frame (itemRec (itemAt (drop q (now (s .entry)))))) ⌝ }
+// The record of the item in slot a.
+fn put_item(s: &[u8], a: u8, d: &mut [u8], at: usize) -> usize
+    requires { ⌜ (length (itemAt (now s) a .forward) ≤ 8) × (length (itemAt (now s) a .reverse) ≤ 8) × (at + 38 < 2 ^ 64) ⌝ }
+    ensures { λ _. ⌜ now (d .exit) ≡ sets (now (d .entry)) at (frame (itemRec (itemAt (now (s .entry)) a))) ⌝ }
+    ensures { λ r. ⌜ r ≡ at + length (frame (itemRec (itemAt (now (s .entry)) a))) ⌝ }
     ensures { λ r. ⌜ r ≤ at + 38 ⌝ }
 {
-    let k = octets::byte_at(s, q);
-    let r = octets::byte_at(s, q + 1);
+    let k = slots::k(s, a);
+    let r = slots::r(s, a);
     put_head(k, r, d, at);
-    put_tail(s, q, k as usize, r as usize, d, at + 6);
+    put_tail(s, a, k as usize, r as usize, d, at + 6);
     at + 22 + k as usize + r as usize
 }
 
 // The records of the items in the first c slots.
 fn put_items(c: usize, s: &[u8], d: &mut [u8], at: usize) -> usize
-    requires { ⌜ (at + 38 * c < 2 ^ 63) × (34 * c ≤ length (now s)) × (c ≤ 64) × CountsFine c (now s) ⌝ }
+    requires { ⌜ (at + 38 * c < 2 ^ 63) × (c ≤ 64) × CountsFine c (now s) ⌝ }
     ensures { λ _. ⌜ now (d .exit) ≡ sets (now (d .entry)) at (itemsBytes c (now (s .entry)) 0) ⌝ }
     ensures { λ r. ⌜ r ≡ at + length (itemsBytes c (now (s .entry)) 0) ⌝ }
 {
     let mut i: usize = 0;
     let mut p = at;
     while i < c {
-        p = put_item(s, 34 * i, d, p);
+        p = put_item(s, i as u8, d, p);
         i = i + 1;
     }
     p
@@ -150,7 +151,7 @@ pub(crate) fn put_book(
     slots: &[u8],
     out: &mut [u8],
 ) -> usize
-    requires { ⌜ (n ≤ 64) × (1 ≤ m) × (m ≤ 32) × (c ≤ 64) × (34 * c ≤ length (now slots)) × CountsFine c (now slots) ⌝ }
+    requires { ⌜ (n ≤ 64) × (1 ≤ m) × (m ≤ 32) × (c ≤ 64) × CountsFine c (now slots) ⌝ }
     ensures { λ _. ⌜ now (out .exit) ≡ sets (now (out .entry)) 0 (bytesOf (bookFrom n m c (now (table .entry)) (now (slots .entry)))) ⌝ }
     ensures { λ r. ⌜ r ≡ length (bytesOf (bookFrom n m c (now (table .entry)) (now (slots .entry)))) ⌝ }
 {

@@ -7,9 +7,10 @@ use borrow.Author.Needs.{needs}
 use borrow.Author.Tests.{not-true, not-false}
 use Rattle.base.specs.Lists.{Bytes}
 use Rattle.base.proofs.Lists.{each-of}
+use Rattle.base.proofs.Sizes.{short-here, short-past}
+use Rattle.book.specs.Lent.{Lent, lent}
 use Rattle.reader.specs.declared.Reading.{Reading}
-use Rattle.assembly.specs.Assembles.{inBytes}
-use Rattle.assembly.proofs.Room.{plan-short, legs-short}
+use Rattle.assembly.specs.Lent.{AllLent, allLent}
 use Rattle.assembly.proofs.WaysOfAssemble as ways
 use Rattle.assembly.proofs.WaysOfAssemble.{Entered, FineRun, NumbersKnown}
 use Rattle.assembly.proofs.assemble.Statement.{statement}
@@ -66,17 +67,18 @@ run-bytes : (c : tie.After-slice-known4) → Bytes (start c .args .run .now)
 run-bytes c = each-of (λ x. x < 256) (start c .args .run .now) 0 (λ i h. omega (arith, c .before .before .before .before .shared-slice-known2 .given i))
 
 -- of the call's arguments, and of what checking gave and left
-abbrev Of : ((book run t d plan legs : List ℕ) → Reading → (t′ d′ : List ℕ) → Type 0) → tie.After-check → Type 0
+abbrev Of : ((book run : List ℕ) → AllLent ℕ → Reading → Lent → Type 0) → tie.After-check → Type 0
 Of P c =
     let a = start (entry c) .args in
-    P (a .book .now) (a .run .now) (a .table .now) (a .slots .now) (a .plan .now) (a .legs .now) (c .check .result) (c .check .last .1 .0) (c .check .last .1 .1 .0)
+    P (a .book .now) (a .run .now) (allLent (lent (a .table .now) (a .slots .now)) (a .plan .now) (a .legs .now)) (c .check .result)
+    (lent (c .check .last .1 .0) (c .check .last .1 .1 .0))
 
 entered : (c : tie.After-check) → Of Entered c
 entered c =
     record {
       check = c .check .ensures;
       run-bytes = run-bytes (entry c);
-      room = (c .before .before .before .before .if1 .left, c .before .before .before .if2 .left);
+      long = (c .before .before .before .before .if1 .left, (c .before .before .before .if2 .left, tt));
     }
 
 fine-run : (c : tie.Else4) → Of FineRun (checked (accepted c .before))
@@ -106,8 +108,7 @@ refused-requires c κs = search needs
 returns : tie.Need-returns
 returns c =
     let s = c .before .before in
-    let a = start s .args in
-    ways.room-refused (book-bytes s) (run-bytes s) (λ A x y. plan-short inBytes (a .plan .now) (a .legs .now) x y (c .before .if1 .taken)) (c .refused .ensures)
+    ways.short-refused (book-bytes s) (run-bytes s) (short-here _ _ (c .before .if1 .taken)) (c .refused .ensures)
 
 refused-requires-2 : tie.Need-refused-requires-2
 refused-requires-2 c κs = search needs
@@ -115,9 +116,8 @@ refused-requires-2 c κs = search needs
 returns-2 : tie.Need-returns-2
 returns-2 c =
     let s = c .before .before .before in
-    let a = start s .args in
-    ways.room-refused (book-bytes s) (run-bytes s)
-    (λ A x y. legs-short inBytes (a .plan .now) (a .legs .now) x y (c .before .before .if1 .left) (c .before .if2 .taken)) (c .refused2 .ensures)
+    ways.short-refused (book-bytes s) (run-bytes s) (short-past _ _ (c .before .before .if1 .left) ∙ short-here _ _ (c .before .if2 .taken))
+    (c .refused2 .ensures)
 
 check-requires : tie.Need-check-requires
 check-requires c κs = search needs

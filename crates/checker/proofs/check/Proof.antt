@@ -13,6 +13,7 @@ use Rattle.checker.proofs.check.Lts as lts
 use Rattle.checker.proofs.code_of.Reads as code-of-reads
 use Rattle.checker.proofs.first_wrong.Reads as first-wrong-reads
 use Rattle.reader.proofs.read.Reads as read-reads
+use Rattle.reader.proofs.refused.Reads as refused-reads
 
 read-requires : tie.Need-read-requires
 read-requires c κs = search needs
@@ -38,6 +39,9 @@ enum-known-judged c = search needs
 code-of-requires : tie.Need-code-of-requires
 code-of-requires c κs = search needs
 
+refused-requires : tie.Need-refused-requires
+refused-requires c κs = search needs
+
 same-length-3 : tie.Need-same-length-3
 same-length-3 c = search needs
 
@@ -58,11 +62,12 @@ same-length-6 c = search needs
 
 returns-3 : tie.Need-returns-3
 returns-3 c =
-    let found = c .before .before .judged .given in
-    let f = c .before .before .before .before in
+    let told = c .before .before .before .judged .given in
+    let f = c .before .before .before .before .before in
     let r = f .before .before .before .before .before .before .before .before .read in
     judged (r .ensures) (f .before .before .if1 .left) _ (f .first-wrong .ensures) _
-    (ap (λ (k : ℕ). refusal k (found .0 .0)) (c .code-of .ensures) ∙ sym (ap (λ (j : Judgement). onJudgement j refusal (r .result)) (found .1)))
+    (c .refused .ensures ∙ ap (λ (k : ℕ). refusal k (told .0 .0)) (c .before .code-of .ensures)
+    ∙ sym (ap (λ (j : Judgement). onJudgement j refusal (r .result)) (told .1)))
 
 pub check-spec : {M : Type 1} → statement M
 check-spec =
@@ -76,6 +81,7 @@ check-spec =
     enum-told
     enum-known-judged
     code-of-requires
+    refused-requires
     same-length-3
     same-length-4
     returns-2

@@ -49,7 +49,7 @@ add-t11 c = search needs
 returns-2 : tie.Need-returns-2
 returns-2 c =
     let a = c .before .before .before .before .before .before .args in
-    read-item (a .book .now) (a .at) _ _ _ _ (c .before .before .before .byte-at .ensures .0) (c .before .before .byte-at2 .ensures .0) (c .before .u64-at .ensures)
+    read-item (a .book .now) (a .at) _ _ (c .before .before .before .byte-at .ensures .0) (c .before .before .byte-at2 .ensures .0) _ _ (c .before .u64-at .ensures)
     (c .u64-at2 .ensures)
 
 pub item-at-spec : {M : Type 1} → statement M

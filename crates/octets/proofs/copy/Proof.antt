@@ -12,7 +12,8 @@ use Rattle.octets.proofs.copy.Statement.{statement}
 use Rattle.octets.proofs.copy.Tie as tie
 
 abbrev Inv-loop : tie.InvT-loop
-Inv-loop n s p d₀ q i₀ d i = (sets d (q + i) (piece (n - i) s (p + i)) ≡ sets d₀ q (piece n s p)) × (length d ≡ length d₀) × (i ≤ n) × (p + n ≤ length s) × (q + n ≤ length d₀)
+Inv-loop n s p d₀ q i₀ d i = (sets d (q + i) (piece (n - i) s (p + i)) ≡ sets d₀ q (piece n s p)) × (length d ≡ length d₀) × (i ≤ n)
+    × (p + n ≤ length s) × (q + n ≤ length d₀)
 
 abbrev μ-loop : tie.MeasureT-loop
 μ-loop n s p d₀ q i₀ d i = n - i
@@ -42,7 +43,14 @@ returns-2 : tie.Need-returns-2 Inv-loop μ-loop
 returns-2 c = search needs
 
 loop-holds : tie.Need-loop-holds Inv-loop μ-loop
-loop-holds c = (search copy-first, search needs, omega arith, room-is _ _ _ _ (c .before .before .before .has-room .ensures) (c .before .before .if1 .left), room-is _ _ _ _ (c .before .has-room2 .ensures) (c .if2 .left))
+loop-holds c = (
+  search copy-first,
+  search needs,
+  omega arith,
+  room-is _ _ _ _ (c .before .before .before .has-room .ensures)
+      (c .before .before .if1 .left),
+  room-is _ _ _ _ (c .before .has-room2 .ensures) (c .if2 .left),
+)
 
 add-d : tie.Need-add-d Inv-loop μ-loop
 add-d c = omega arith
@@ -69,7 +77,9 @@ same-length-3 : tie.Need-same-length-3 Inv-loop μ-loop
 same-length-3 c = search needs
 
 returns-3 : tie.Need-returns-3 Inv-loop μ-loop
-returns-3 c = copy-none (c .before .before .before .before .before .before .before .before .args .n) (c .before .before .before .before .before .before .before .before .args .s .now) (c .before .before .before .before .before .before .before .before .args .p) _ (c .before .loop .i) (c .before .before .before .before .before .before .before .before .args .q + c .before .loop .i) (c .before .loop .d) (c .before .loop .inv .0) (omega arith)
+returns-3 c =
+    let a = c .before .before .before .before .before .before .before .before .args in
+    copy-none (a .n) (a .s .now) (a .p) _ (c .before .loop .i) (a .q + c .before .loop .i) (c .before .loop .d) (c .before .loop .inv .0) (omega arith)
 
 pub copy-spec : {M : Type 1} → statement M
 copy-spec =

@@ -6,14 +6,13 @@ use borrow.Author.Needs.{needs}
 use lib.ListN.{length}
 use Rattle.book.specs.Book.{Book, AllowedBook, bytesOf}
 use Rattle.book.specs.Buffers.{slotsOf}
-use Rattle.items.specs.Items.{Begins, withMasks}
+use Rattle.items.specs.Items.{Begins}
 use Rattle.reader.proofs.Filling.{Slotting, slotting, stands, slotted, all-slotted}
 use Rattle.reader.proofs.fill_slots.Statement.{statement}
 use Rattle.reader.proofs.fill_slots.Tie as tie
 use Rattle.reader.proofs.fill_slots.Reads as reads
 use Rattle.reader.proofs.fill_slots.Lts as lts
-use Rattle.items.proofs.counts_at.Reads as counts-at-reads
-use Rattle.reader.proofs.fill.put_slot.Reads as put-slot-reads
+use Rattle.slots.proofs.fill.Reads as fill-reads
 
 abbrev Inv-loop : tie.InvT-loop
 Inv-loop book first slots₀ at₀ i₀ slots at i =
@@ -32,31 +31,28 @@ same-length c = search needs
 returns : tie.Need-returns Inv-loop μ-loop
 returns c = record { items = λ b a e q. absurd (omega (arith, a .few, stands a e (c .before .before .loop .inv .2 b a e q) (c .before .loop-test .taken) .known)) }
 
-counts-at-requires : tie.Need-counts-at-requires Inv-loop μ-loop
-counts-at-requires c κs = search needs
+cast-fill : tie.Need-cast-fill Inv-loop μ-loop
+cast-fill c = search needs
 
-mul-put-slot : tie.Need-mul-put-slot Inv-loop μ-loop
-mul-put-slot c = omega arith
-
-put-slot-requires : tie.Need-put-slot-requires Inv-loop μ-loop
-put-slot-requires c κs = (c .before .before .before .loop-test .taken, omega arith)
+fill-requires : tie.Need-fill-requires Inv-loop μ-loop
+fill-requires c κs = search needs
 
 add-i : tie.Need-add-i Inv-loop μ-loop
 add-i c = omega arith
 
 loop-less : tie.Need-loop-less Inv-loop μ-loop
-loop-less c = omega (arith, c .before .before .before .before .counts-at .ensures .past (c .before .before .before .before .before .before .loop-test .taken))
+loop-less c = omega (arith, c .before .before .fill .ensures .past (c .before .before .before .before .before .loop-test .taken))
 
 loop-again : tie.Need-loop-again Inv-loop μ-loop
 loop-again c =
-    let v = c .before .before .before .before .before .before .before .loop .inv in
-    let t = c .before .before .before .before .before .before .loop-test .taken in
-    let i = c .before .before .before .before .counts-at in (
+    let v = c .before .before .before .before .before .before .loop .inv in
+    let t = c .before .before .before .before .before .loop-test .taken in
+    let o = c .before .before .fill .ensures in (
       omega arith,
       search needs,
       λ b a e q.
           let g = v .2 b a e q in
-          let h = stands a e g t in slotted a e g t (withMasks _ _ (i .result)) (i .ensures .fields h) (i .ensures .next h) _ (c .before .before .put-slot .ensures),
+          let h = stands a e g t in slotted a e g t _ (o .next h) _ (o .slot h),
     )
 
 same-length-2 : tie.Need-same-length-2 Inv-loop μ-loop
@@ -74,9 +70,8 @@ fill-slots-spec =
     loop-holds
     same-length
     returns
-    counts-at-requires
-    mul-put-slot
-    put-slot-requires
+    cast-fill
+    fill-requires
     add-i
     loop-less
     loop-again

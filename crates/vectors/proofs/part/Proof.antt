@@ -29,7 +29,8 @@ part-result-end : tie.Need-part-result-end
 part-result-end c = search needs
 
 returns : tie.Need-returns
-returns c = part-is (c .before .before .before .before .args .s .now) (c .before .before .before .before .args .at) (c .before .before .before .before .args .len) _ _ (c .before .before .least .ensures) (c .before .least2 .ensures)
+returns c = part-is (c .before .before .before .before .args .s .now) (c .before .before .before .before .args .at)
+    (c .before .before .before .before .args .len) _ _ (c .before .before .least .ensures) (c .before .least2 .ensures)
 
 pub part-spec : {M : Type 1} → statement M
 part-spec =

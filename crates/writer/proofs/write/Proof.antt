@@ -124,7 +124,7 @@ put-book-requires c κs =
     let a = d .before .before .before .before .before .before .before .args in
     let device : AllowedDevice (a .n) (a .m) = device-on _ _ (sym (d .device-fine .ensures) ∙ not-false _ (c .before .before .before .before .before .before .if4 .left)) in
     let h : a .items ≤ lowestSlot (a .n) (a .m) (a .items) (a .slots .now) = rw (c .before .before .lowest-slot .ensures) at (c .before .if7 .left) in
-    (omega arith, omega arith, omega arith, omega arith, omega arith, counts-fine (a .n) (a .m) (a .items) (a .slots .now) h)
+    (omega arith, omega arith, omega arith, omega arith, counts-fine (a .n) (a .m) (a .items) (a .slots .now) h)
 
 same-length : tie.Need-same-length
 same-length c = search needs

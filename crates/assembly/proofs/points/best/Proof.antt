@@ -5,7 +5,7 @@ use Prim.Native.Nat.{ℕ, _+_, _-_, _≤_}
 use native.Mathlib.Omega.{arith}
 use borrow.Author.Needs.{needs}
 use Rattle.reversal.specs.Computed.Least.{Rule}
-use Rattle.assembly.specs.Fields.{inSlots}
+use Rattle.book.specs.Slots.{itemAt}
 use Rattle.assembly.specs.Rules.{ruleOf, Chosen}
 use Rattle.assembly.proofs.BestItem.{fits-room, choice-start, choice-out, choice-kept, choice-taken}
 use Rattle.assembly.proofs.points.best.Statement.{statement}
@@ -14,11 +14,11 @@ use Rattle.assembly.proofs.points.best.Reads as reads
 use Rattle.assembly.proofs.points.best.Lts as lts
 use Rattle.assembly.proofs.points.fits_at.Reads as fits-at-reads
 use Rattle.assembly.proofs.points.wide.Reads as wide-reads
-use Rattle.assembly.proofs.slot.k.Reads as k-reads
-use Rattle.assembly.proofs.slot.r.Reads as r-reads
+use Rattle.slots.proofs.k.Reads as k-reads
+use Rattle.slots.proofs.r.Reads as r-reads
 
 abbrev Inv-loop : tie.InvT-loop
-Inv-loop slots count run sets fewest j number₀ item₀ a₀ number item a = Chosen (ruleOf (inSlots slots) run sets count) fewest j a number item × (a ≤ count)
+Inv-loop slots count run sets fewest j number₀ item₀ a₀ number item a = Chosen (ruleOf (itemAt slots) run sets count) fewest j a number item × (a ≤ count)
 
 abbrev μ-loop : tie.MeasureT-loop
 μ-loop slots count run sets fewest j number₀ item₀ a₀ number item a = count - a
@@ -31,14 +31,14 @@ abbrev head : tie.After-k Inv-loop μ-loop → tie.At-loop Inv-loop μ-loop
 head c = c .before .before .before .before
 
 abbrev rule : tie.Start Inv-loop μ-loop → Rule
-rule c = ruleOf (inSlots (c .args .slots .now)) (c .args .run .now) (c .args .sets .now) (c .args .count)
+rule c = ruleOf (itemAt (c .args .slots .now)) (c .args .run .now) (c .args .sets .now) (c .args .count)
 
 -- an item that fits has room
 room : (c : tie.After-k Inv-loop μ-loop) → c .k .result ≤ start (head c) .args .j
 room c =
     let a = start (head c) .args in
     let fit = sym (c .before .before .fits-at .ensures) ∙ c .before .if1 .taken in
-    omega (arith, fits-room (inSlots (a .slots .now)) (a .run .now) (a .sets .now) (head c .loop .a) (a .j) fit, c .k .ensures .0)
+    omega (arith, fits-room (itemAt (a .slots .now)) (a .run .now) (a .sets .now) (head c .loop .a) (a .j) fit, c .k .ensures .0)
 
 loop-holds : tie.Need-loop-holds Inv-loop μ-loop
 loop-holds c =
@@ -49,13 +49,13 @@ fits-at-requires : tie.Need-fits-at-requires Inv-loop μ-loop
 fits-at-requires c κs = omega arith
 
 k-requires : tie.Need-k-requires Inv-loop μ-loop
-k-requires c κs = omega arith
+k-requires c κs = search needs
 
 sub-low : tie.Need-sub-low Inv-loop μ-loop
 sub-low c = omega (arith, room c)
 
 r-requires : tie.Need-r-requires Inv-loop μ-loop
-r-requires c κs = omega arith
+r-requires c κs = search needs
 
 mul-wide : tie.Need-mul-wide Inv-loop μ-loop
 mul-wide c = omega (arith, room (c .before))

@@ -9,23 +9,24 @@ use lib.ListN.{getD}
 use Rattle.base.specs.Masks.{inside}
 use Rattle.states.specs.declared.StateSet.{StateSet}
 use Rattle.runs.specs.Computed.{commandOf}
-use Rattle.assembly.specs.Fields.{kAt, forwardAt, phiAt, psiAt, inSlots}
+use Rattle.book.specs.Slots.{itemAt}
+use Rattle.assembly.specs.Items.{kOf}
 use Rattle.assembly.specs.Rules.{sameAt}
 use Rattle.assembly.proofs.FitTests.{fits-short, same-start, same-next, same-fails, upper-fails, lower-decides}
 use Rattle.assembly.proofs.points.fits_at.Statement.{statement}
 use Rattle.assembly.proofs.points.fits_at.Tie as tie
 use Rattle.assembly.proofs.points.fits_at.Reads as reads
 use Rattle.assembly.proofs.points.fits_at.Lts as lts
-use Rattle.assembly.proofs.slot.forward.Reads as forward-reads
-use Rattle.assembly.proofs.slot.k.Reads as k-reads
-use Rattle.assembly.proofs.slot.phi.Reads as phi-reads
-use Rattle.assembly.proofs.slot.psi.Reads as psi-reads
+use Rattle.slots.proofs.forward.Reads as forward-reads
+use Rattle.slots.proofs.k.Reads as k-reads
+use Rattle.slots.proofs.phi.Reads as phi-reads
+use Rattle.slots.proofs.psi.Reads as psi-reads
 use Rattle.runs.proofs.command_at.Reads as command-at-reads
 use Rattle.states.proofs.StateSet.is_inside.Reads as is-inside-reads
 use Rattle.states.proofs.StateSet.of.Reads as of-reads
 
 abbrev Inv-loop : tie.InvT-loop
-Inv-loop slots a run sets j k low x₀ x = (sameAt (inSlots slots) run a j x ≡ true) × (x ≤ k)
+Inv-loop slots a run sets j k low x₀ x = (sameAt (itemAt slots) run a j x ≡ true) × (x ≤ k)
 
 abbrev μ-loop : tie.MeasureT-loop
 μ-loop slots a run sets j k low x₀ x = k - x
@@ -48,46 +49,49 @@ passed c = c .before .before .before .before .before
 
 -- ---- what holds there
 -- the item has room
-room : (c : tie.At-loop Inv-loop μ-loop) → kAt (entry c .args .slots .now) (entry c .args .a) ≤ entry c .args .j
+room : (c : tie.At-loop Inv-loop μ-loop) → kOf (itemAt (entry c .args .slots .now)) (entry c .args .a) ≤ entry c .args .j
 room c = omega (arith, read c .k .ensures .0, c .before .if1 .left)
 
 forward-is : (c : tie.After-command-at Inv-loop μ-loop)
-    → c .before .forward .result ≡ forwardAt (entry (head c) .args .slots .now) (entry (head c) .args .a) (head c .loop .x)
-forward-is c = c .before .forward .ensures
+    → c .before .forward .result ≡ getD (itemAt (entry (head c) .args .slots .now) (entry (head c) .args .a) .forward) (head c .loop .x) 0
+forward-is c = c .before .forward .ensures (omega (arith, read (head c) .k .ensures .0))
 
 command-is : (c : tie.After-command-at Inv-loop μ-loop) → let a = entry (head c) .args in
-    c .command-at .result ≡ commandOf (a .run .now) (a .j - kAt (a .slots .now) (a .a) + head c .loop .x)
+    c .command-at .result ≡ commandOf (a .run .now) (a .j - kOf (itemAt (a .slots .now)) (a .a) + head c .loop .x)
 command-is c =
     let a = entry (head c) .args in
     c .command-at .ensures ∙ ap (λ (y : ℕ). commandOf (a .run .now) (a .j - y + head c .loop .x)) (read (head c) .k .ensures .0)
 
 -- whether the upper states are in phi
 upper-is : (c : tie.After-is-inside Inv-loop μ-loop) → let a = entry (passed c) .args in
-    c .is-inside .result ≡ inside (getD (a .sets .now) (a .j) 0) (phiAt (a .slots .now) (a .a))
+    c .is-inside .result ≡ inside (getD (a .sets .now) (a .j) 0) (itemAt (a .slots .now) (a .a) .phi)
 upper-is c =
     let a = entry (passed c) .args in
     c .is-inside .ensures
     ∙ ap₂ (λ (x : StateSet) (y : ℕ). inside (x .mask) y) (c .before .before .of .ensures) (c .before .phi .ensures)
 
 -- all commands are the run's
-all-passed : (c : tie.After-loop Inv-loop μ-loop) → c .before .loop .x ≡ kAt (entry (c .before) .args .slots .now) (entry (c .before) .args .a)
+all-passed : (c : tie.After-loop Inv-loop μ-loop) → c .before .loop .x ≡ kOf (itemAt (entry (c .before) .args .slots .now)) (entry (c .before) .args .a)
 all-passed c = omega (arith, read (c .before) .k .ensures .0, c .before .loop .inv .1)
 
 k-requires : tie.Need-k-requires Inv-loop μ-loop
-k-requires c κs = omega arith
+k-requires c κs = search needs
 
 returns : tie.Need-returns Inv-loop μ-loop
 returns c =
     let a = start (c .before) .args in
-    fits-short (inSlots (a .slots .now)) (a .run .now) (a .sets .now) (a .a) (a .j) (omega (arith, c .before .k .ensures .0))
+    fits-short (itemAt (a .slots .now)) (a .run .now) (a .sets .now) (a .a) (a .j) (omega (arith, c .before .k .ensures .0))
 
 loop-holds : tie.Need-loop-holds Inv-loop μ-loop
 loop-holds c =
     let a = start (c .before) .args in
-    (same-start (inSlots (a .slots .now)) (a .run .now) (a .sets .now) (a .a) (a .j), omega arith)
+    (same-start (itemAt (a .slots .now)) (a .run .now) (a .sets .now) (a .a) (a .j), omega arith)
+
+cast-forward : tie.Need-cast-forward Inv-loop μ-loop
+cast-forward c = omega (arith, read (c .before) .k .ensures .1)
 
 forward-requires : tie.Need-forward-requires Inv-loop μ-loop
-forward-requires c κs = omega (arith, read (c .before) .k .ensures .1)
+forward-requires c κs = search needs
 
 add-command-at : tie.Need-add-command-at Inv-loop μ-loop
 add-command-at c = search needs
@@ -99,7 +103,7 @@ returns-2 : tie.Need-returns-2 Inv-loop μ-loop
 returns-2 c =
     let l = head (c .before) in
     let a = entry l .args in
-    same-fails (inSlots (a .slots .now)) (a .run .now) (a .sets .now) (a .a) (a .j) (room l) (l .loop .x) _ _
+    same-fails (itemAt (a .slots .now)) (a .run .now) (a .sets .now) (a .a) (a .j) (room l) (l .loop .x) _ _
     (omega (arith, read l .k .ensures .0)) (forward-is (c .before)) (command-is (c .before)) (c .if2 .taken)
 
 add-x : tie.Need-add-x Inv-loop μ-loop
@@ -112,7 +116,7 @@ loop-again : tie.Need-loop-again Inv-loop μ-loop
 loop-again c =
     let l = head (c .before) in
     let a = entry l .args in (
-      same-next (inSlots (a .slots .now)) (a .run .now) (a .sets .now) (a .a) (a .j) (l .loop .x) _ _ (l .loop .inv .0)
+      same-next (itemAt (a .slots .now)) (a .run .now) (a .sets .now) (a .a) (a .j) (l .loop .x) _ _ (l .loop .inv .0)
           (forward-is (c .before)) (command-is (c .before)) (c .if2 .left),
       omega arith,
     )
@@ -127,7 +131,7 @@ of-requires : tie.Need-of-requires Inv-loop μ-loop
 of-requires c κs = search needs
 
 phi-requires : tie.Need-phi-requires Inv-loop μ-loop
-phi-requires c κs = omega (arith, entry (c .before .before .before) .pre)
+phi-requires c κs = search needs
 
 is-inside-requires : tie.Need-is-inside-requires Inv-loop μ-loop
 is-inside-requires c κs = search needs
@@ -136,7 +140,7 @@ returns-3 : tie.Need-returns-3 Inv-loop μ-loop
 returns-3 c =
     let l = passed (c .before) in
     let a = entry l .args in
-    upper-fails (inSlots (a .slots .now)) (a .run .now) (a .sets .now) (a .a) (a .j) (room l) (l .loop .x)
+    upper-fails (itemAt (a .slots .now)) (a .run .now) (a .sets .now) (a .a) (a .j) (room l) (l .loop .x)
     (all-passed (c .before .before .before .before .before)) (l .loop .inv .0) (sym (upper-is (c .before)) ∙ not-true _ (c .if3 .taken))
 
 mul-of-2 : tie.Need-mul-of-2 Inv-loop μ-loop
@@ -149,7 +153,7 @@ of-requires-2 : tie.Need-of-requires-2 Inv-loop μ-loop
 of-requires-2 c κs = search needs
 
 psi-requires : tie.Need-psi-requires Inv-loop μ-loop
-psi-requires c κs = omega (arith, entry (passed (c .before .before .before)) .pre)
+psi-requires c κs = search needs
 
 is-inside-requires-2 : tie.Need-is-inside-requires-2 Inv-loop μ-loop
 is-inside-requires-2 c κs = search needs
@@ -159,10 +163,10 @@ returns-4 c =
     let up = c .before .before .before .before .before in
     let l = passed up in
     let a = entry l .args in
-    lower-decides (inSlots (a .slots .now)) (a .run .now) (a .sets .now) (a .a) (a .j) (room l) (l .loop .x)
+    lower-decides (itemAt (a .slots .now)) (a .run .now) (a .sets .now) (a .a) (a .j) (room l) (l .loop .x)
     (all-passed (up .before .before .before .before)) (l .loop .inv .0) _ (sym (upper-is up) ∙ not-false _ (c .before .before .before .before .if3 .left))
     (c .is-inside2 .ensures ∙ ap₂ (λ (x : StateSet) (y : ℕ). inside (x .mask) y) (c .before .before .of2 .ensures) (c .before .psi .ensures)
-    ∙ ap (λ (z : ℕ). inside (getD (a .sets .now) (a .j - z) 0) (psiAt (a .slots .now) (a .a))) (read l .k .ensures .0))
+    ∙ ap (λ (z : ℕ). inside (getD (a .sets .now) (a .j - z) 0) (itemAt (a .slots .now) (a .a) .psi)) (read l .k .ensures .0))
 
 pub fits-at-spec : {M : Type 1} → statement M
 fits-at-spec =
@@ -173,6 +177,7 @@ fits-at-spec =
     k-requires
     returns
     loop-holds
+    cast-forward
     forward-requires
     add-command-at
     command-at-requires

@@ -3,7 +3,7 @@ use mathlib.Core.Path.{_≡_, subst}
 use Prim.Native.Nat.{ℕ, _-_, _≤_}
 use native.Mathlib.Omega.{arith}
 use Rattle.reversal.specs.Computed.Least.{Rule}
-use Rattle.assembly.specs.Fields.{inSlots}
+use Rattle.book.specs.Slots.{itemAt}
 use Rattle.assembly.specs.Rules.{ruleOf, Numbered}
 use Rattle.assembly.proofs.Numbers.{numbered-start, numbered-next}
 use Rattle.assembly.proofs.points.points_of.Statement.{statement}
@@ -13,7 +13,7 @@ use Rattle.assembly.proofs.points.points_of.Lts as lts
 use Rattle.assembly.proofs.points.best.Reads as best-reads
 
 abbrev Inv-loop : tie.InvT-loop
-Inv-loop slots count run sets i fewest₀ items₀ j₀ fewest items j = Numbered (ruleOf (inSlots slots) run sets count) j fewest items × (j ≤ i)
+Inv-loop slots count run sets i fewest₀ items₀ j₀ fewest items j = Numbered (ruleOf (itemAt slots) run sets count) j fewest items × (j ≤ i)
 
 abbrev μ-loop : tie.MeasureT-loop
 μ-loop slots count run sets i fewest₀ items₀ j₀ fewest items j = i - j
@@ -22,14 +22,14 @@ abbrev μ-loop : tie.MeasureT-loop
 abbrev start : tie.At-loop Inv-loop μ-loop → tie.Start Inv-loop μ-loop
 start c = c .before .before .before
 
-abbrev chosen : tie.After-struct-known2 Inv-loop μ-loop → tie.After-best Inv-loop μ-loop
-chosen c = c .before .before
+abbrev chosen : tie.After-struct-known Inv-loop μ-loop → tie.After-best Inv-loop μ-loop
+chosen c = c .before
 
 abbrev head : tie.After-best Inv-loop μ-loop → tie.At-loop Inv-loop μ-loop
 head c = c .before .before .before
 
 abbrev rule : tie.Start Inv-loop μ-loop → Rule
-rule c = ruleOf (inSlots (c .args .slots .now)) (c .args .run .now) (c .args .sets .now) (c .args .count)
+rule c = ruleOf (itemAt (c .args .slots .now)) (c .args .run .now) (c .args .sets .now) (c .args .count)
 
 array-write-fewest : tie.Need-array-write-fewest Inv-loop μ-loop
 array-write-fewest c = omega arith
@@ -39,6 +39,9 @@ loop-holds c = (numbered-start (rule (c .before .before)) (c .before .before .pr
 
 add-best : tie.Need-add-best Inv-loop μ-loop
 add-best c = omega arith
+
+cast-best : tie.Need-cast-best Inv-loop μ-loop
+cast-best c = omega arith
 
 best-requires : tie.Need-best-requires Inv-loop μ-loop
 best-requires c κs = omega arith
@@ -54,9 +57,6 @@ mul-fewest c = omega arith
 
 array-write-fewest-2 : tie.Need-array-write-fewest-2 Inv-loop μ-loop
 array-write-fewest-2 c = omega arith
-
-cast-items : tie.Need-cast-items Inv-loop μ-loop
-cast-items c = omega (arith, c .before .before .best .ensures .within)
 
 add-items : tie.Need-add-items Inv-loop μ-loop
 add-items c = omega arith
@@ -92,13 +92,13 @@ points-of-spec =
     μ-loop
     array-write-fewest
     loop-holds
+    cast-best
     add-best
     best-requires
     cast-fewest
     add-fewest
     mul-fewest
     array-write-fewest-2
-    cast-items
     add-items
     array-write-items
     add-j

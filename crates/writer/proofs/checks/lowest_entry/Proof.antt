@@ -1,12 +1,13 @@
 -- `writer::checks::lowest_entry` meets its contract. The loop's invariant: seeking from `i` on gives the answer. The measure is the number of
 -- entries that are left. Assumes nothing.
-use mathlib.Core.Path.{_≡_}
+use mathlib.Core.Path.{_≡_, ap, _∙_}
 use Prim.Native.Nat.{_-_, _≤_}
 use native.Mathlib.Nat.{sub-zero}
 use borrow.Author.Needs.{needs}
+use Rattle.base.specs.Masks.{clearFrom}
 use Rattle.base.specs.Bounded.{seek}
 use Rattle.writer.specs.Checks.{entryWrong, lowestEntry}
-use Rattle.writer.proofs.Scans.{seek-again, seek-stop, seek-finish, turned-on, turned-off, mask-test}
+use Rattle.writer.proofs.Scans.{seek-again, seek-stop, seek-finish, turned-on, turned-off}
 use Rattle.writer.proofs.checks.lowest_entry.Statement.{statement}
 use Rattle.writer.proofs.checks.lowest_entry.Tie as tie
 
@@ -23,16 +24,13 @@ loop-holds c = (rw sub-zero, search needs)
 entry-at-requires : tie.Need-entry-at-requires Inv-loop μ-loop
 entry-at-requires c κs = search needs
 
-of-requires : tie.Need-of-requires Inv-loop μ-loop
-of-requires c κs = search needs
-
-clear-from-requires : tie.Need-clear-from-requires Inv-loop μ-loop
-clear-from-requires c κs = search needs
+mask-fine-requires : tie.Need-mask-fine-requires Inv-loop μ-loop
+mask-fine-requires c κs = search needs
 
 returns : tie.Need-returns Inv-loop μ-loop
 returns c =
-    let read = c .before .before .before in
-    let e = mask-test _ _ _ _ _ (c .before .clear-from .ensures) (c .before .before .of .ensures) (read .entry-at .ensures) in
+    let read = c .before .before in
+    let e = c .before .mask-fine .ensures ∙ ap (clearFrom _) (read .entry-at .ensures) in
     let v = read .before .before .loop in
     let a = read .before .before .before .before .args in
     seek-stop (entryWrong (a .n) (a .t .now)) (a .k) (v .i) _ (v .inv .0) (read .before .loop-test .taken) (turned-on _ _ e (c .if1 .taken))
@@ -45,8 +43,8 @@ loop-less c = search needs
 
 loop-again : tie.Need-loop-again Inv-loop μ-loop
 loop-again c =
-    let read = c .before .before .before in
-    let e = mask-test _ _ _ _ _ (c .before .clear-from .ensures) (c .before .before .of .ensures) (read .entry-at .ensures) in
+    let read = c .before .before in
+    let e = c .before .mask-fine .ensures ∙ ap (clearFrom _) (read .entry-at .ensures) in
     let v = read .before .before .loop in
     let a = read .before .before .before .before .args in
     let next = seek-again (entryWrong (a .n) (a .t .now)) (a .k) (v .i) _ (v .inv .0) (read .before .loop-test .taken) (turned-off _ _ e (c .if1 .left)) in
@@ -66,8 +64,7 @@ lowest-entry-spec =
     μ-loop
     loop-holds
     entry-at-requires
-    of-requires
-    clear-from-requires
+    mask-fine-requires
     returns
     add-i
     loop-less

@@ -20,17 +20,17 @@ loop-holds : tie.Need-loop-holds Inv-loop μ-loop
 unfolding lowestSlot
 loop-holds c = (rw sub-zero, search needs)
 
-mul-slot-fine : tie.Need-mul-slot-fine Inv-loop μ-loop
-mul-slot-fine c = search needs
+cast-fine : tie.Need-cast-fine Inv-loop μ-loop
+cast-fine c = search needs
 
-slot-fine-requires : tie.Need-slot-fine-requires Inv-loop μ-loop
-slot-fine-requires c κs = search needs
+fine-requires : tie.Need-fine-requires Inv-loop μ-loop
+fine-requires c κs = search needs
 
 returns : tie.Need-returns Inv-loop μ-loop
 returns c =
     let a = c .before .before .before .before .before .args in
     let v = c .before .before .before .loop in
-    let e = turned-on _ _ (c .before .slot-fine .ensures) (c .if1 .taken) in
+    let e = turned-on _ _ (c .before .fine .ensures) (c .if1 .taken) in
     seek-stop (slotWrong (a .n) (a .m) (a .s .now)) (a .c) (v .i) _ (v .inv .0) (c .before .before .loop-test .taken) e
 
 add-i : tie.Need-add-i Inv-loop μ-loop
@@ -43,7 +43,7 @@ loop-again : tie.Need-loop-again Inv-loop μ-loop
 loop-again c =
     let a = c .before .before .before .before .before .args in
     let v = c .before .before .before .loop in
-    let e = turned-off _ _ (c .before .slot-fine .ensures) (c .if1 .left) in
+    let e = turned-off _ _ (c .before .fine .ensures) (c .if1 .left) in
     (seek-again (slotWrong (a .n) (a .m) (a .s .now)) (a .c) (v .i) _ (v .inv .0) (c .before .before .loop-test .taken) e, search needs)
 
 returns-2 : tie.Need-returns-2 Inv-loop μ-loop
@@ -59,8 +59,8 @@ lowest-slot-spec =
     Inv-loop
     μ-loop
     loop-holds
-    mul-slot-fine
-    slot-fine-requires
+    cast-fine
+    fine-requires
     returns
     add-i
     loop-less

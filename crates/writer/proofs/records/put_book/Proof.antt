@@ -8,7 +8,8 @@ use lib.Seq.{sets}
 use Rattle.book.specs.Book.{frame, deviceRec}
 use Rattle.book.proofs.Scanning.{length-frame}
 use Rattle.writer.specs.Records.{movesBytes, itemsBytes}
-use Rattle.writer.proofs.Stores.{first, then, cells-below, book-bytes}
+use Rattle.octets.proofs.Put.{first, then}
+use Rattle.writer.proofs.Stores.{cells-below, book-bytes}
 use borrow.Author.Needs.{needs}
 use Rattle.writer.proofs.records.put_book.Statement.{statement}
 use Rattle.writer.proofs.records.put_book.Tie as tie
@@ -28,7 +29,7 @@ put-items-requires : tie.Need-put-items-requires
 put-items-requires c κs =
     let start = c .before .before .before .before .before .before .before .before .before .before .before .before in
     let k = cells-below (start .args .n) (start .args .m) (omega arith) in
-    (omega arith, omega arith, omega arith, start .pre .5)
+    (omega arith, omega arith, start .pre .4)
 
 same-length : tie.Need-same-length
 same-length c = search needs

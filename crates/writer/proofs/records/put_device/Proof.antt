@@ -3,7 +3,8 @@ use mathlib.Core.Path.{refl, ap, _∙_}
 use native.Mathlib.Omega.{arith}
 use lib.Seq.{sets}
 use Rattle.octets.specs.Le.{bytesLe}
-use Rattle.writer.proofs.Stores.{first, then, device-record}
+use Rattle.octets.proofs.Put.{first, then}
+use Rattle.writer.proofs.Stores.{device-record}
 use borrow.Author.Needs.{needs}
 use Rattle.writer.proofs.records.put_device.Statement.{statement}
 use Rattle.writer.proofs.records.put_device.Tie as tie

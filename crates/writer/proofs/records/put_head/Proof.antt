@@ -3,7 +3,7 @@ use mathlib.Core.Path.{refl}
 use Prim.Native.Nat.{_+_}
 use Rattle.octets.specs.Le.{bytesLe}
 use Rattle.writer.specs.Records.{itemHead}
-use Rattle.writer.proofs.Stores.{first, then}
+use Rattle.octets.proofs.Put.{first, then}
 use borrow.Author.Needs.{needs}
 use Rattle.writer.proofs.records.put_head.Statement.{statement}
 use Rattle.writer.proofs.records.put_head.Tie as tie

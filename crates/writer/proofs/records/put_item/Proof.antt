@@ -1,24 +1,28 @@
--- `writer::records::put_item` meets its contract: the head, then the commands and masks. Assumes nothing.
-use mathlib.Core.Path.{_≡_, ap, ap₂, _∙_}
-use mathlib.Core.List.{_++_}
-use Prim.Native.Nat.{ℕ, _+_, _≤_}
+-- `writer::records::put_item` meets its contract: its head, and then its commands and masks. Assumes nothing.
+use mathlib.Core.Path.{_≡_, ap, _∙_}
+use Prim.Native.Nat.{_+_}
 use native.Mathlib.Omega.{arith}
-use lib.ListN.{getD}
+use lib.ListN.{length}
 use lib.Seq.{sets}
-use Rattle.writer.specs.Records.{itemHead, itemTail}
-use Rattle.writer.proofs.Stores.{first, then, length-head, item-record, item-size}
 use borrow.Author.Needs.{needs}
+use Rattle.octets.proofs.Put.{first, then}
+use Rattle.book.specs.Slots.{itemAt}
+use Rattle.writer.specs.Records.{itemHead, itemTail}
+use Rattle.writer.proofs.Stores.{length-head, item-record, item-size}
 use Rattle.writer.proofs.records.put_item.Statement.{statement}
 use Rattle.writer.proofs.records.put_item.Tie as tie
+use Rattle.writer.proofs.records.put_item.Reads as reads
+use Rattle.writer.proofs.records.put_item.Lts as lts
+use Rattle.slots.proofs.k.Reads as k-reads
+use Rattle.slots.proofs.r.Reads as r-reads
+use Rattle.writer.proofs.records.put_head.Reads as put-head-reads
+use Rattle.writer.proofs.records.put_tail.Reads as put-tail-reads
 
-byte-at-requires : tie.Need-byte-at-requires
-byte-at-requires c κs = search needs
+k-requires : tie.Need-k-requires
+k-requires c κs = search needs
 
-add-byte-at : tie.Need-add-byte-at
-add-byte-at c = search needs
-
-byte-at-requires-2 : tie.Need-byte-at-requires-2
-byte-at-requires-2 c κs = search needs
+r-requires : tie.Need-r-requires
+r-requires c κs = search needs
 
 put-head-requires : tie.Need-put-head-requires
 put-head-requires c κs = search needs
@@ -48,18 +52,15 @@ returns c =
     let reverse = head .before .before in
     let forward = reverse .before in
     let a = forward .before .before .before .args in
-    let s = a .s .now in
-    let k = forward .byte-at .result in
-    let r = reverse .byte-at2 .result in
-    let ek : k ≡ getD s (a .q) 0 = forward .byte-at .ensures .0 in
-    let er : r ≡ getD s (a .q + 1) 0 = reverse .byte-at2 .ensures .0 in
-    let kh : getD s (a .q) 0 ≤ 8 = omega arith in
-    let rh : getD s (a .q + 1) 0 ≤ 8 = omega arith in
-    let size = item-size s (a .q) kh rh (omega arith) in (
+    let x = itemAt (a .s .now) (a .a) in
+    let k = forward .k .result in
+    let r = reverse .r .result in
+    let ek : k ≡ length (x .forward) = forward .k .ensures .0 in
+    let er : r ≡ length (x .reverse) = reverse .r .ensures .0 in
+    let size = item-size x k r ek er in (
       then (first (a .d .now) (a .at) (itemHead k r) (head .put-head .ensures))
-          (a .at + 6) (itemTail s (a .q) k r) (omega (arith, length-head k r)) (tail .put-tail .ensures) .is
-          ∙ (ap₂ (λ (x y : ℕ). sets (a .d .now) (a .at) (itemHead x y ++ itemTail s (a .q) x y)) ek er
-          ∙ ap (sets (a .d .now) (a .at)) (item-record s (a .q) kh rh (omega arith))),
+          (a .at + 6) (itemTail x) (omega (arith, length-head k r)) (tail .put-tail .ensures) .is
+          ∙ ap (sets (a .d .now) (a .at)) (item-record x k r ek er (omega arith) (omega arith)),
       (omega (arith, size), omega arith),
     )
 
@@ -67,9 +68,8 @@ pub put-item-spec : {M : Type 1} → statement M
 put-item-spec =
     tie.close
     (tie.spec
-    byte-at-requires
-    add-byte-at
-    byte-at-requires-2
+    k-requires
+    r-requires
     put-head-requires
     add-put-tail
     put-tail-requires

@@ -26,14 +26,14 @@ abbrev μ-loop : tie.MeasureT-loop
 loop-holds : tie.Need-loop-holds Inv-loop μ-loop
 loop-holds c = (rw sub-zero, rw sub-zero, omega arith, search needs, omega arith)
 
-mul-put-item : tie.Need-mul-put-item Inv-loop μ-loop
-mul-put-item c = search needs
+cast-put-item : tie.Need-cast-put-item Inv-loop μ-loop
+cast-put-item c = search needs
 
 put-item-requires : tie.Need-put-item-requires Inv-loop μ-loop
 put-item-requires c κs =
     let v = c .before .before .loop in
-    let fine = c .before .before .before .before .before .pre .3 in
-    omega (arith, fine .forward (v .i) (omega arith), fine .reverse (v .i) (omega arith))
+    let fine = c .before .before .before .before .before .pre .2 in
+    (fine .forward (v .i) (omega arith), fine .reverse (v .i) (omega arith), omega arith)
 
 add-i : tie.Need-add-i Inv-loop μ-loop
 add-i c = search needs
@@ -73,7 +73,7 @@ put-items-spec =
     Inv-loop
     μ-loop
     loop-holds
-    mul-put-item
+    cast-put-item
     put-item-requires
     add-i
     loop-less

@@ -4,7 +4,8 @@ use Prim.Native.Nat.{_+_}
 use native.Mathlib.Omega.{arith}
 use lib.Seq.{sets}
 use Rattle.octets.specs.Le.{bytesLe}
-use Rattle.writer.proofs.Stores.{first, then, move-record}
+use Rattle.octets.proofs.Put.{first, then}
+use Rattle.writer.proofs.Stores.{move-record}
 use borrow.Author.Needs.{needs}
 use Rattle.writer.proofs.records.put_move.Statement.{statement}
 use Rattle.writer.proofs.records.put_move.Tie as tie

@@ -1,0 +1,18 @@
+-- The items by number, wherever they are read: what assembling computes of them speaks of this alone. Assumes nothing: these are definitions.
+use mathlib.Core.Path.{_≡_}
+use mathlib.Core.List.{List}
+use Prim.Native.Nat.{ℕ, _<_}
+use lib.ListN.{length}
+use Rattle.reversal.specs.Reversal.{Item}
+use Rattle.reversal.specs.Chains.{item}
+
+abbrev pub Items : Type 0
+Items = ℕ → Item
+
+-- the number of forward commands of item a
+abbrev pub kOf : Items → ℕ → ℕ
+kOf F a = length (F a .forward)
+
+-- they are the items of a list
+abbrev pub ItemsOf : List Item → Items → Type 0
+ItemsOf items F = (a : ℕ) → a < length items → F a ≡ item items a

@@ -1,0 +1,103 @@
+-- A slot read and stored part by part. Assumes nothing.
+use mathlib.Core.Path.{_≡_, refl, sym, ap, _∙_}
+use mathlib.Core.List.{List, [], _∷_, _++_, append-assoc}
+use Prim.Native.Nat.{ℕ, zero, suc, _+_, _-_, _*_, _/_, _%_, _≤_, _<_}
+use native.Mathlib.Omega.{arith}
+use lib.ListN.{length, getD, replicate, length-append}
+use lib.Seq.{sets}
+use Rattle.reversal.specs.Reversal.{Item}
+use Rattle.octets.specs.Le.{bytesLe}
+use Rattle.octets.specs.Parts.{piece}
+use Rattle.octets.proofs.Put.{first, then, length-piece, piece-get}
+use Rattle.book.specs.Lent.{padded, slotOf}
+use Rattle.book.specs.Slots.{itemAt}
+use Rattle.book.proofs.Slots.{length-padded}
+use Rattle.items.specs.declared.Parts.{Parts}
+use Rattle.items.specs.Items.{PartsOf, PartsAt}
+use Rattle.items.proofs.Laws.{allowed}
+use Rattle.slots.specs.Filled.{slotFrom, SlotFilled}
+
+-- ---- the fields of the item in slot a
+module _ (s : List ℕ) (a : ℕ) where
+  pub k-is : (r : ℕ) → r ≡ getD s (34 * a) 0 → r ≡ length (itemAt s a .forward)
+  unfolding itemAt
+  k-is r e = e ∙ sym (length-piece _ s (34 * a + 2))
+
+  pub r-is : (r : ℕ) → r ≡ getD s (34 * a + 1) 0 → r ≡ length (itemAt s a .reverse)
+  unfolding itemAt
+  r-is r e = e ∙ sym (length-piece _ s (34 * a + 10))
+
+  pub forward-is : (x r : ℕ) → r ≡ getD s (34 * a + 2 + x) 0 → x < length (itemAt s a .forward) → r ≡ getD (itemAt s a .forward) x 0
+  unfolding itemAt
+  forward-is x r e h =
+      let k = getD s (34 * a) 0 in
+      e ∙ sym (piece-get k s (34 * a + 2) x (omega (arith, length-piece k s (34 * a + 2))))
+
+  module _ (d d′ : List ℕ) (at count : ℕ) where
+    pub forward-put : d′ ≡ sets d at (piece count s (34 * a + 2)) → count ≡ length (itemAt s a .forward) → d′ ≡ sets d at (itemAt s a .forward)
+    unfolding itemAt
+    forward-put p e = p ∙ ap (λ (n : ℕ). sets d at (piece n s (34 * a + 2))) (e ∙ length-piece _ s (34 * a + 2))
+
+    pub reverse-put : d′ ≡ sets d at (piece count s (34 * a + 10)) → count ≡ length (itemAt s a .reverse) → d′ ≡ sets d at (itemAt s a .reverse)
+    unfolding itemAt
+    reverse-put p e = p ∙ ap (λ (n : ℕ). sets d at (piece n s (34 * a + 10))) (e ∙ length-piece _ s (34 * a + 10))
+
+-- ---- a slot stored
+bytes-zero : (n : ℕ) → bytesLe n 0 ≡ replicate n 0
+unfolding bytesLe
+bytes-zero zero = refl
+bytes-zero (suc n) = ap (λ (t : List ℕ). 0 ∷ t) (bytes-zero n)
+
+pub commands-put : (n : ℕ) (s : List ℕ) (p q : ℕ) (d₀ d₁ d₂ : List ℕ) → d₁ ≡ sets d₀ q (piece n s p) → d₂ ≡ sets d₁ (q + n) (bytesLe (8 - n) 0)
+    → d₂ ≡ sets d₀ q (padded (piece n s p))
+commands-put n s p q d₀ d₁ d₂ e f =
+    let row = piece n s p in
+    let l = length-piece n s p in
+    then (first d₀ q row e) (q + n) (bytesLe (8 - n) 0) (omega arith) f .is
+    ∙ ap (λ (z : List ℕ). sets d₀ q (row ++ z)) (bytes-zero (8 - n) ∙ ap (λ (k : ℕ). replicate (8 - k) 0) (sym l))
+
+counts-put : (k r : ℕ) → k ≤ 8 → r ≤ 8 → bytesLe 2 (k + 256 * r) ≡ k ∷ r ∷ []
+unfolding bytesLe
+counts-put k r h l =
+    let e : (k + 256 * r) % 256 ≡ k = omega arith in
+    let f : (k + 256 * r) / 256 ≡ r = omega arith in
+    let g : r % 256 ≡ r = omega arith in
+    rw (e, f, g)
+
+pub item-put : (s : List ℕ) (p : Parts) (q : ℕ) (d₀ d₁ d₂ d₃ d₄ : List ℕ) → p .k ≤ 8 → p .r ≤ 8 → d₁ ≡ sets d₀ q (bytesLe 2 (p .k + 256 * p .r))
+    → d₂ ≡ sets d₁ (q + 2) (padded (piece (p .k) s (p .forward))) → d₃ ≡ sets d₂ (q + 10) (padded (piece (p .r) s (p .reverse)))
+    → d₄ ≡ sets d₃ (q + 18) (piece 16 s (p .masks)) → d₄ ≡ sets d₀ q (slotFrom s p)
+unfolding slotFrom
+item-put s p q d₀ d₁ d₂ d₃ d₄ h g e₁ e₂ e₃ e₄ =
+    let F = padded (piece (p .k) s (p .forward)) in
+    let R = padded (piece (p .r) s (p .reverse)) in
+    let C = p .k ∷ p .r ∷ [] in
+    let lf : length F ≡ 8 = length-padded (piece (p .k) s (p .forward)) (omega (arith, length-piece (p .k) s (p .forward))) in
+    let lr : length R ≡ 8 = length-padded (piece (p .r) s (p .reverse)) (omega (arith, length-piece (p .r) s (p .reverse))) in
+    then (then (then (first d₀ q C (e₁ ∙ ap (sets d₀ q) (counts-put (p .k) (p .r) h g)))
+    (q + 2) F refl e₂)
+    (q + 10) R (omega (arith, length-append C F)) e₃)
+    (q + 18) (piece 16 s (p .masks)) (omega (arith, length-append C F, length-append (C ++ F) R)) e₄ .is
+    ∙ ap (sets d₀ q) (append-assoc (C ++ F) R (piece 16 s (p .masks)) ∙ append-assoc C F (R ++ piece 16 s (p .masks)))
+
+-- it is the slot of the item whose parts stand there
+slot-from : (s : List ℕ) (p : Parts) (x : Item) → PartsOf s p x → slotFrom s p ≡ slotOf x
+unfolding slotFrom
+slot-from s p x f = rw (f .forward-is, f .reverse-is, f .masks-are, f .k-is, f .r-is)
+
+-- ---- the contract of `fill`
+module _ {s : List ℕ} {at : ℕ} {p : Parts} (o : PartsAt s at p) (slots : List ℕ) (a : ℕ) where
+  -- no item stands there
+  pub none-filled : (p .k ≤ 8 → p .r ≤ 8 → ⊥) → SlotFilled s at slots a slots (p .next)
+  none-filled n =
+      record {
+        past = o .past;
+        slot =
+            λ h.
+            let f = o .parts h in
+            let x = allowed h in absurd (n (omega (arith, f .k-is, x .most)) (omega (arith, f .r-is, x .reverse-most)));
+        next = o .next;
+      }
+
+  pub item-filled : (slots′ : List ℕ) → slots′ ≡ sets slots (34 * a) (slotFrom s p) → SlotFilled s at slots a slots′ (p .next)
+  item-filled slots′ e = record { past = o .past; slot = λ h. e ∙ ap (sets slots (34 * a)) (slot-from s p _ (o .parts h)); next = o .next }

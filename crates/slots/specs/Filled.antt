@@ -1,0 +1,23 @@
+-- A slot filled from an item's record, for every allowed book whose bytes these are. Assumes nothing: these are definitions.
+use mathlib.Core.Path.{_≡_}
+use mathlib.Core.List.{List, _∷_, _++_}
+use Prim.Native.Nat.{ℕ, _+_, _*_, _<_}
+use lib.ListN.{length}
+use lib.Seq.{sets}
+use Rattle.reversal.specs.Chains.{item}
+use Rattle.book.specs.Book.{Book}
+use Rattle.octets.specs.Parts.{piece}
+use Rattle.book.specs.Lent.{padded, slotOf}
+use Rattle.items.specs.declared.Parts.{Parts}
+use Rattle.items.specs.Items.{Begins, ItemStands}
+
+-- the slot of an item whose parts stand in s
+unfoldable pub slotFrom : List ℕ → Parts → List ℕ
+slotFrom s p =
+    p .k ∷ p .r ∷ (padded (piece (p .k) s (p .forward)) ++ (padded (piece (p .r) s (p .reverse)) ++ piece 16 s (p .masks)))
+
+-- the contract of `fill`: bytes s with a record at `at`, the slots before and after, and the place of the next record
+pub record SlotFilled (s : List ℕ) (at : ℕ) (slots : List ℕ) (a : ℕ) (slots′ : List ℕ) (r : ℕ) : Type 0 where
+  pub past : at < length s → at < r
+  pub slot : {b : Book} {i : ℕ} → ItemStands s b i at → slots′ ≡ sets slots (34 * a) (slotOf (item (b .items) i))
+  pub next : {b : Book} {i : ℕ} → ItemStands s b i at → Begins s b (i + 1) r

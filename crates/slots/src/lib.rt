@@ -1,0 +1,122 @@
+// The items in lent slots: 34 bytes each, with k, r, eight forward and eight reverse commands, phi and psi. This module alone knows their places
+// there. Every call takes any bytes and any slot's number; past the end there are zeros, and nothing is stored.
+use items::Parts;
+ghost use mathlib.Core.Path.{_≡_};
+ghost use Prim.Native.Nat.{_≤_, _<_};
+ghost use lib.ListN.{length, getD};
+ghost use lib.Seq.{sets};
+ghost use Rattle.octets.specs.Parts.{piece};
+ghost use Rattle.book.specs.Lent.{padded};
+ghost use Rattle.book.specs.Slots.{itemAt, slotFine};
+ghost use Rattle.slots.specs.Filled.{slotFrom, SlotFilled};
+
+// The number of forward commands of the item in slot a.
+pub fn k(slots: &[u8], a: u8) -> u64
+    ensures { λ r. ⌜ (r ≡ length (itemAt (now (slots .entry)) a .forward)) × (r < 256) ⌝ }
+{
+    octets::byte_at(slots, 34 * a as usize)
+}
+
+// The number of its reverse commands.
+pub fn r(slots: &[u8], a: u8) -> u64
+    ensures { λ r. ⌜ (r ≡ length (itemAt (now (slots .entry)) a .reverse)) × (r < 256) ⌝ }
+{
+    octets::byte_at(slots, 34 * a as usize + 1)
+}
+
+// Its forward command x, where it has one.
+pub fn forward(slots: &[u8], a: u8, x: u8) -> u64
+    ensures { λ r. ⌜ (x < length (itemAt (now (slots .entry)) a .forward) → r ≡ getD (itemAt (now (slots .entry)) a .forward) x 0) ⌝ }
+{
+    octets::byte_at(slots, 34 * a as usize + 2 + x as usize)
+}
+
+pub fn phi(slots: &[u8], a: u8) -> u64
+    ensures { λ r. ⌜ r ≡ itemAt (now (slots .entry)) a .phi ⌝ }
+{
+    octets::u64_at(slots, 34 * a as usize + 18)
+}
+
+pub fn psi(slots: &[u8], a: u8) -> u64
+    ensures { λ r. ⌜ r ≡ itemAt (now (slots .entry)) a .psi ⌝ }
+{
+    octets::u64_at(slots, 34 * a as usize + 26)
+}
+
+// Stores its forward commands in d, from `at` on, for who knows their number.
+pub fn put_forward(slots: &[u8], a: u8, count: usize, d: &mut [u8], at: usize)
+    ensures { λ _. ⌜ (count ≡ length (itemAt (now (slots .entry)) a .forward)
+        → now (d .exit) ≡ sets (now (d .entry)) at (itemAt (now (slots .entry)) a .forward)) ⌝ }
+{
+    octets::copy(count, slots, 34 * a as usize + 2, d, at);
+}
+
+// Stores its reverse commands.
+pub fn put_reverse(slots: &[u8], a: u8, count: usize, d: &mut [u8], at: usize)
+    ensures { λ _. ⌜ (count ≡ length (itemAt (now (slots .entry)) a .reverse)
+        → now (d .exit) ≡ sets (now (d .entry)) at (itemAt (now (slots .entry)) a .reverse)) ⌝ }
+{
+    octets::copy(count, slots, 34 * a as usize + 10, d, at);
+}
+
+// Whether slot a keeps an item's limits, for n states and m commands, and has zeros in its unused command bytes.
+pub fn fine(slots: &[u8], a: u8, n: u64, m: u64) -> bool
+    ensures { λ x. ⌜ x ≡ slotFine n m (now (slots .entry)) a ⌝ }
+{
+    let q = 34 * a as usize;
+    if slots.len() < q + 34 {
+        return false;
+    }
+    let k = octets::byte_at(slots, q);
+    let r = octets::byte_at(slots, q + 1);
+    if !limits::counts_fine(k, r) {
+        return false;
+    }
+    let f = q + 2 + k as usize;
+    let b = q + 10 + r as usize;
+    let phi = octets::u64_at(slots, q + 18);
+    let psi = octets::u64_at(slots, q + 26);
+    if !limits::fields_fine(&slots[q + 2..f], &slots[q + 10..b], phi, psi, n, m) {
+        return false;
+    }
+    if !limits::all_below(&slots[f..q + 10], 1) {
+        return false;
+    }
+    limits::all_below(&slots[b..q + 18], 1)
+}
+
+// Stores n of at most eight commands of the book, from p on, and zeros up to eight.
+fn put_commands(n: usize, book: &[u8], p: usize, slots: &mut [u8], q: usize)
+    requires { ⌜ (n ≤ 8) × (q < 10000) ⌝ }
+    ensures { λ _. ⌜ now (slots .exit) ≡ sets (now (slots .entry)) q (padded (piece n (now (book .entry)) p)) ⌝ }
+{
+    octets::copy(n, book, p, slots, q);
+    octets::put_le(8 - n, 0, slots, q + n);
+}
+
+// Stores the slot of an item whose parts are known, from q on.
+fn put_item(book: &[u8], item: Parts, slots: &mut [u8], q: usize)
+    requires { ⌜ (item .k ≤ 8) × (item .r ≤ 8) × (q < 9000) ⌝ }
+    ensures { λ _. ⌜ now (slots .exit) ≡ sets (now (slots .entry)) q (slotFrom (now (book .entry)) item) ⌝ }
+{
+    octets::put_le(2, (item.k + 256 * item.r) as u64, slots, q);
+    put_commands(item.k, book, item.forward, slots, q + 2);
+    put_commands(item.r, book, item.reverse, slots, q + 10);
+    octets::copy(16, book, item.masks, slots, q + 18);
+}
+
+// Fills slot a from the item whose record begins at a place of a book; gives the place of the next one. Where no item stands nothing is stored, or
+// something or other in the slot.
+pub fn fill(book: &[u8], at: usize, slots: &mut [u8], a: u8) -> usize
+    ensures { λ r. ⌜ SlotFilled (now (book .entry)) at (now (slots .entry)) a (now (slots .exit)) r ⌝ }
+{
+    let item = items::parts_at(book, at);
+    if 8 < item.k {
+        return item.next;
+    }
+    if 8 < item.r {
+        return item.next;
+    }
+    put_item(book, item, slots, 34 * a as usize);
+    item.next
+}

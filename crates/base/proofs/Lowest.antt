@@ -44,7 +44,7 @@ module _ (g : ℕ → Bool) (k : ℕ) where
 
     pub wrong-lowest : (i : ℕ) → LowestWrong P k i → failing ≡ i
     wrong-lowest i w =
-        let a : failing < i → ⊥ = λ l. wrong-there (omega (arith, w .inside)) (w .lower failing l) in
+        let a : failing < i → ⊥ = λ l. wrong-there (omega (arith, w .inside)) (w .lower failing (omega arith)) in
         let b : i < failing → ⊥ = λ l. w .wrong (tells .on i (w .inside) (passes i l (w .inside))) in
         omega arith
 
@@ -56,6 +56,6 @@ module _ (g : ℕ → Bool) (k : ℕ) where
 -- there is one at most
 pub one-lowest : {P : ℕ → Type 0} {k i j : ℕ} → LowestWrong P k i → LowestWrong P k j → i ≡ j
 one-lowest {i = i} {j} f g =
-    let a : i < j → ⊥ = λ l. f .wrong (g .lower i l) in
-    let b : j < i → ⊥ = λ l. g .wrong (f .lower j l) in
+    let a : i < j → ⊥ = λ l. f .wrong (g .lower i (omega arith)) in
+    let b : j < i → ⊥ = λ l. g .wrong (f .lower j (omega arith)) in
     omega arith

@@ -15,7 +15,6 @@ use Rattle.base.specs.Shorter.{anyShort}
 use Rattle.base.proofs.Lists.{each-at, each-of}
 use Rattle.base.proofs.Sizes.{on-short}
 use Rattle.base.proofs.Tests.{T-true, true-T}
-use Rattle.base.proofs.Sizes.{on-short}
 use Rattle.base.proofs.Lowest.{Tells, fails, lowest-wrong, none-wrong as none-lowest, wrong-none}
 use Rattle.reversal.specs.Reversal.{AllowedItem, Accepted}
 use Rattle.reversal.specs.Chains.{absent, item}

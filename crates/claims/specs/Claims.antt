@@ -116,7 +116,7 @@ pub record CheckClaims (ρ : Routine) : Type 2 where
 
 -- writing answers 0 exactly where the buffers are long enough and table and slots hold an allowed book
 abbrev pub WritesZero : Write
-WritesZero n m items l out r out′ = (r .code ≡ 0) ↔ (Long (buffers l out) × ((b : Book) × AllowedBook b × Holds n m items l b))
+WritesZero n m items l out r out′ = (r .code ≡ 0) ↔ (LongEnough (buffers l out) × ((b : Book) × AllowedBook b × Holds n m items l b))
 
 -- what it writes is well-formed, and no longer than any well-formed book
 abbrev pub WellWritten : Write

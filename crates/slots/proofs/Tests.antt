@@ -6,14 +6,13 @@ use Prim.Native.Nat.{ℕ, _+_, _-_, _*_, _≤_, _<_}
 use native.Mathlib.Omega.{arith}
 use borrow.Author.Tests.{not-false}
 use lib.ListN.{length, getD, take, drop}
-use Rattle.base.proofs.Picks.{less-yes, less-no}
+use Rattle.base.proofs.Picks.{less-yes, less-no, call-yes, call-no}
 use Rattle.reversal.specs.Reversal.{Item}
 use Rattle.octets.specs.Parts.{leAt, piece}
 use Rattle.octets.proofs.Put.{piece-take}
 use Rattle.book.specs.Limits.{countsFine, allBelow, fieldsFine, itemWith}
 use Rattle.book.specs.Slots.{itemAt, unused, slotFine}
 use Rattle.book.proofs.Limits.{counts-on}
-use Rattle.limits.proofs.Below.{refused, passed}
 use Rattle.slots.proofs.Laws.{k-is, r-is}
 
 module _ (n m : ℕ) (s : List ℕ) (a : ℕ) where
@@ -34,7 +33,7 @@ module _ (n m : ℕ) (s : List ℕ) (a : ℕ) where
 
     pub counts-wrong : not b ≡ true → false ≡ slotFine n m s a
     unfolding slotFine
-    counts-wrong h = less-no _ _ _ (length s) (q + 34) room (refused _ b _ counts h)
+    counts-wrong h = less-no _ _ _ (length s) (q + 34) room (call-yes _ _ _ _ b counts h refl)
 
     module _ (ok : not b ≡ false) where
       counts-low : (1 ≤ k) × (k ≤ 8) × (r ≤ 8)
@@ -65,7 +64,7 @@ module _ (n m : ℕ) (s : List ℕ) (a : ℕ) where
 
         pub fields-wrong : not f ≡ true → false ≡ slotFine n m s a
         unfolding slotFine
-        fields-wrong h = less-no _ _ _ (length s) (q + 34) room (passed _ b _ _ counts ok (refused _ f _ fields h))
+        fields-wrong h = less-no _ _ _ (length s) (q + 34) room (call-no _ _ _ _ b counts ok (call-yes _ _ _ _ f fields h refl))
 
         -- the unused forward bytes are judged by g
         module _ (fine : not f ≡ false) (g : Bool) (eg : g ≡ allBelow 1 (take (q + 10 - (q + 2 + k)) (drop (q + 2 + k) s))) where
@@ -79,16 +78,16 @@ module _ (n m : ℕ) (s : List ℕ) (a : ℕ) where
           pub unused-wrong : not g ≡ true → false ≡ slotFine n m s a
           unfolding slotFine
           unused-wrong h =
-              less-no _ _ _ (length s) (q + 34) room (passed _ b _ _ counts ok (passed _ f _ _ fields fine (refused _ g _ rest h)))
+              less-no _ _ _ (length s) (q + 34) room (call-no _ _ _ _ b counts ok (call-no _ _ _ _ f fields fine (call-yes _ _ _ _ g rest h refl)))
 
           pub unused-decides : not g ≡ false → (y : Bool) → y ≡ allBelow 1 (take (q + 18 - (q + 10 + r)) (drop (q + 10 + r) s)) → y ≡ slotFine n m s a
           unfolding slotFine
           unused-decides h y ey =
               let (some, most, reverse-most) = counts-low in
               less-no _ _ _ (length s) (q + 34) room
-              (passed _ b _ _ counts ok
-              (passed _ f _ _ fields fine
-              (passed _ g _ _ rest h
+              (call-no _ _ _ _ b counts ok
+              (call-no _ _ _ _ f fields fine
+              (call-no _ _ _ _ g rest h
               (ey
               ∙ ap (allBelow 1) (lent (8 - r) (q + 10 + r) (q + 18) (omega arith) (omega arith))
               ∙ ap (λ (j : ℕ). allBelow 1 (unused j s (q + 10))) (r-is s a r er)))))

@@ -22,7 +22,7 @@ use Rattle.claims.specs.Claims.{GivenBack, ReadBack, WriteBack}
 
 pub write-back : {n m items : ℕ} {l : Lent} {out : List ℕ} {r : Writing} {out′ : List ℕ} → Bytes (l .slots) → Writes n m items l out r out′
     → WriteBack n m items l out r out′
-write-back {n} {m} {items} {l} {out} {r} {out′} h x book k reads room = go reads
+write-back {n} {m} {items} {l} {out} {r} {out′} h x book given reads room = go reads
   where
     read : Reading
     read = record { code = 0; place = 0; n = n; m = m; items = items }
@@ -30,9 +30,9 @@ write-back {n} {m} {items} {l} {out} {r} {out′} h x book k reads room = go rea
     code-of : {y : Reading} → read ≡ y → 0 ≡ y .code
     code-of e = ap (λ (y : Reading). y .code) e
 
-    go : Reads book k read l → BookWritten book out r out′
-    go (short a e _) = absurd (omega (arith, code-of e))
-    go (faulty _ f e _) = absurd (omega (arith, code-of e, refusal-codes book _ _ f))
+    go : Reads book given read l → BookWritten book out r out′
+    go (short a e k) = absurd (omega (arith, code-of e))
+    go (faulty _ f e k) = absurd (omega (arith, code-of e, refusal-codes book _ _ f))
     go (fine b f e) =
         let holds : Holds n m items l b
         = subst (λ (y : Reading). Holds (y .n) (y .m) (y .items) l b) (sym e) (read-holds (f .read .table-read) (f .read .slots-read)) in
@@ -41,7 +41,7 @@ write-back {n} {m} {items} {l} {out} {r} {out′} h x book k reads room = go rea
         subst (λ (y : List ℕ). BookWritten y out r out′) (f .bytes) (held-written h x long (f .allowed) holds)
 
 pub read-back : {book : List ℕ} {l : Lent} {r : Reading} {l′ : Lent} → Bytes book → Reads book l r l′ → ReadBack book l r l′
-read-back {book} {l} {r} {l′} h reads n m items u out w out′ x z e long = go reads
+read-back {book} {l} {r} {l′} h reads n m items given out w out′ x z e long = go reads
   where
     b : Book
     b = done-of z x .1 .0
@@ -49,7 +49,7 @@ read-back {book} {l} {r} {l′} h reads n m items u out w out′ x z e long = go
     allowed : AllowedBook b
     allowed = done-of z x .1 .1
 
-    holds : Holds n m items u b
+    holds : Holds n m items given b
     holds = done-of z x .1 .2
 
     same : bytesOf b ≡ book
@@ -58,7 +58,7 @@ read-back {book} {l} {r} {l′} h reads n m items u out w out′ x z e long = go
     size : length (slotsBytes (b .items)) ≡ 34 * items
     size = length-slots (deviceOf b) (b .items) (allowed .each-item) ∙ ap (λ (k : ℕ). 34 * k) (holds .count)
 
-    back : r ≡ done b → Filled book l b l′ → GivenBack n m items u r l′
+    back : r ≡ done b → Filled book l b l′ → GivenBack n m items given r l′
     back q f =
         record {
           result =
@@ -71,10 +71,10 @@ read-back {book} {l} {r} {l′} h reads n m items u out w out′ x z e long = go
               (subst (λ (c : ℕ). i < c) (ap₂ (λ (i j : ℕ). i * j) (sym (holds .states)) (sym (holds .commands))) k);
           slots-same =
               ap (λ (k : ℕ). take k (l′ .slots)) (sym size)
-              ∙ (f .read .slots-read .front ∙ (sym (holds .slots-are .front) ∙ ap (λ (k : ℕ). take k (u .slots)) size));
+              ∙ (f .read .slots-read .front ∙ (sym (holds .slots-are .front) ∙ ap (λ (k : ℕ). take k (given .slots)) size));
         }
 
-    go : Reads book l r l′ → GivenBack n m items u r l′
+    go : Reads book l r l′ → GivenBack n m items given r l′
     go (short a q k) = absurd (a long)
     go (faulty _ f q k) = absurd (not-refused book h f b allowed same)
     go (fine b′ f q) =

@@ -7,7 +7,7 @@ use Prim.Native.Nat.{ℕ, _*_, _<_, _≤_}
 use prog.Routine.{Routine}
 use lib.ListN.{length, getD, take}
 use denote.Ref.{now}
-use Rattle.base.specs.Sizes.{LongEnough as Long}
+use Rattle.base.specs.Sizes.{LongEnough}
 use Rattle.book.specs.Book.{Book, AllowedBook, bytesOf, WellFormed}
 use Rattle.book.specs.Lent.{Lent, lent, sizes, Holds}
 use Rattle.reader.specs.declared.Reading.{Reading}
@@ -78,20 +78,20 @@ pub record GivenBack (n m items : ℕ) (l : Lent) (r : Reading) (l′ : Lent) : 
 -- "writing allowed tables and items and reading them gives those back": the book is what some writing, with code 0, wrote
 abbrev pub ReadBack : Read
 ReadBack book l r l′ =
-    (n m items : ℕ) (k : Lent) (out : List ℕ) (w : Writing) (out′ : List ℕ) → Writes n m items k out w out′ → w .code ≡ 0
-    → book ≡ take (w .length) out′ → Long (sizes l) → GivenBack n m items k r l′
+    (n m items : ℕ) (given : Lent) (out : List ℕ) (w : Writing) (out′ : List ℕ) → Writes n m items given out w out′ → w .code ≡ 0
+    → book ≡ take (w .length) out′ → LongEnough (sizes l) → GivenBack n m items given r l′
 
 -- "Reading a well-formed book and writing it gives the same bytes": the n, m, count, table and slots are those that some reading, with code 0, left
 abbrev pub WriteBack : Write
 WriteBack n m items l out r out′ =
-    (book : List ℕ) (k : Lent) → Reads book k (record { code = 0; place = 0; n = n; m = m; items = items }) l → 31110 ≤ length out
+    (book : List ℕ) (given : Lent) → Reads book given (record { code = 0; place = 0; n = n; m = m; items = items }) l → 31110 ≤ length out
     → BookWritten book out r out′
 
 -- ---- the claims
 
 -- reading answers 0 exactly on the bytes of some allowed book, in buffers that are long enough
 abbrev pub ReadsZero : Read
-ReadsZero book l r l′ = (r .code ≡ 0) ↔ (Long (sizes l) × WellFormed book)
+ReadsZero book l r l′ = (r .code ≡ 0) ↔ (LongEnough (sizes l) × WellFormed book)
 
 pub record ReadClaims (ρ : Routine) : Type 2 where
   -- 01: "Reading fills a table .. and slots .."; its codes 1 to 7 in their order, and what each leaves behind
@@ -101,12 +101,12 @@ pub record ReadClaims (ρ : Routine) : Type 2 where
 
 -- checking answers 0 exactly where the bytes keep the rules and every item is a conditional reverse plan by trajectories
 abbrev pub ChecksZero : Read
-ChecksZero book l r l′ = (r .code ≡ 0) ↔ (Long (sizes l) × ((b : Book) × AcceptedBook book b))
+ChecksZero book l r l′ = (r .code ≡ 0) ↔ (LongEnough (sizes l) × ((b : Book) × AcceptedBook book b))
 
 -- and 8 exactly where they keep the rules and some item is not; the place is that of the first such item's record
 abbrev pub ChecksEight : Read
 ChecksEight book l r l′ =
-    (r .code ≡ 8) ↔ (Long (sizes l) × ((b : Book) × AllowedBook b × (bytesOf b ≡ book) × ((i : ℕ) × FirstWrong b i × (r .place ≡ placeOf b i))))
+    (r .code ≡ 8) ↔ (LongEnough (sizes l) × ((b : Book) × AllowedBook b × (bytesOf b ≡ book) × ((i : ℕ) × FirstWrong b i × (r .place ≡ placeOf b i))))
 
 pub record CheckClaims (ρ : Routine) : Type 2 where
   -- 01: "checking a book is reading and 8"
@@ -116,7 +116,7 @@ pub record CheckClaims (ρ : Routine) : Type 2 where
 
 -- writing answers 0 exactly where the buffers are long enough and table and slots hold an allowed book
 abbrev pub WritesZero : Write
-WritesZero n m items l out r out′ = (r .code ≡ 0) ↔ (Long (buffers l out) × ((b : Book) × AllowedBook b × Holds n m items l b))
+WritesZero n m items l out r out′ = (r .code ≡ 0) ↔ (LongEnough (buffers l out) × ((b : Book) × AllowedBook b × Holds n m items l b))
 
 -- what it writes is well-formed, and no longer than any well-formed book
 abbrev pub WellWritten : Write

@@ -1,5 +1,5 @@
 -- One turn of the pass over the records: each way through the code, over plain variables. Assumes nothing.
-use mathlib.Core.Path.{_≡_, refl, sym, ap, _∙_}
+use mathlib.Core.Path.{_≡_, refl, sym, ap, _∙_, subst}
 use mathlib.Core.List.{List}
 use Prim.Native.Nat.{ℕ, zero, suc, _+_, _-_, _≤_}
 use native.Mathlib.Omega.{arith}
@@ -13,11 +13,21 @@ use Rattle.book.specs.Parse.{Row, cut, step, onStep, atEnd, scan}
 use Rattle.book.specs.Parse.Row.{End, Torn}
 use Rattle.book.proofs.CutAt.{cut-whole}
 use Rattle.reader.specs.Judged.{Limits, rec}
-use Rattle.reader.specs.Turns.{Standing, Onward}
+use Rattle.reader.specs.declared.scan.Head.{Head}
+use Rattle.reader.specs.declared.scan.Head.the-variants.{Whole}
+use Rattle.reader.specs.Turns.{Standing, Stands, Onward}
 
 pub standing : (s : List ℕ) (at len kind : ℕ) → 4 ≤ length s - at → len ≡ leAt 2 s at → kind ≡ leAt 2 s (at + 2) → len ≤ length s - (at + 4)
     → Standing s at len kind
 standing s at len kind h a b l = record { row = rw (a, b) (cut-whole s at h (rw a at l)); within = omega arith }
+
+-- what is told of a head, where it is known
+module _ (s : List ℕ) (at : ℕ) where
+  pub told : {x y : Head} → x ≡ y → Stands s at x → Stands s at y
+  told e h = subst (λ (x : Head). Stands s at x) e h
+
+  pub stood : {x : Head} {len kind : ℕ} → x ≡ Whole len kind → Stands s at x → Standing s at len kind
+  stood e h = told e h
 
 module _ (s : List ℕ) (at : ℕ) (st : State) where
   pub over-empty : cut (drop at s) ≡ End → st .phase ≡ 0 → scan (cut (drop at s)) at st ≡ Fault 2 at

@@ -28,7 +28,9 @@ sub-if3 : tie.Need-sub-if3
 sub-if3 c = search needs
 
 returns-3 : tie.Need-returns-3
-returns-3 c = cut-short (c .before .before .before .before .before .args .s .now) (c .before .before .before .before .before .args .at) (c .before .before .if2 .left) (omega (arith, c .before .u16-at .ensures .0))
+returns-3 c =
+    let a = c .before .before .before .before .before .args in
+    cut-short (a .s .now) (a .at) (c .before .before .if2 .left) (omega (arith, c .before .u16-at .ensures .0))
 
 add-u16-at : tie.Need-add-u16-at
 add-u16-at c = search needs
@@ -37,7 +39,9 @@ u16-at-requires-2 : tie.Need-u16-at-requires-2
 u16-at-requires-2 c κs = search needs
 
 returns-4 : tie.Need-returns-4
-returns-4 c = standing (c .before .before .before .before .before .before .args .s .now) (c .before .before .before .before .before .before .args .at) _ _ (c .before .before .before .if2 .left) (c .before .before .u16-at .ensures .0) (c .u16-at2 .ensures .0) (c .before .if3 .left)
+returns-4 c =
+    let a = c .before .before .before .before .before .before .args in
+    standing (a .s .now) (a .at) _ _ (c .before .before .before .if2 .left) (c .before .before .u16-at .ensures .0) (c .u16-at2 .ensures .0) (c .before .if3 .left)
 
 pub head-at-spec : {M : Type 1} → statement M
 head-at-spec =

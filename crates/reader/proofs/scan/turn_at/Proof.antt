@@ -1,10 +1,8 @@
 -- `turn_at` meets its contract. Assumes nothing.
 use mathlib.Core.Path.{subst}
 use native.Mathlib.Omega.{arith}
-use Rattle.reader.specs.declared.scan.Head.{Head}
 use Rattle.reader.specs.Judged.{Bounded}
-use Rattle.reader.specs.Turns.{Standing, Stands}
-use Rattle.reader.proofs.Turns.{over-empty, over-end, over-short, goes, stops}
+use Rattle.reader.proofs.Turns.{told, stood, over-empty, over-end, over-short, goes, stops}
 use borrow.Author.Needs.{needs}
 use Rattle.reader.proofs.scan.turn_at.Statement.{statement}
 use Rattle.reader.proofs.scan.turn_at.Tie as tie
@@ -21,8 +19,9 @@ enum-told c = search needs
 
 returns : tie.Need-returns
 returns c =
-    let a = c .before .before .before .before .before .before .args in
-    (over-empty (a .s .now) (a .at) (a .st) (subst (λ (x : Head). Stands (a .s .now) (a .at) x) (c .before .before .enum-told .given .1) (c .before .before .before .before .head-at .ensures)) (c .if1 .taken), tt)
+    let k = c .before .before in
+    let a = k .before .before .before .before .args in
+    (over-empty (a .s .now) (a .at) (a .st) (told (a .s .now) (a .at) (k .enum-told .given .1) (k .before .before .head-at .ensures)) (c .if1 .taken), tt)
 
 enum-told-2 : tie.Need-enum-told-2
 enum-told-2 c = search needs
@@ -38,10 +37,11 @@ add-record-step-2 c = search needs
 
 add-record-step-3 : tie.Need-add-record-step-3
 add-record-step-3 c =
-    let a = c .before .before .before .before .before .args in
-    let f = c .before .head .given in
-    let h : Standing (a .s .now) (a .at) (f .0 .0) (f .0 .1 .0) = subst (λ (x : Head). Stands (a .s .now) (a .at) x) (c .before .head .given .1) (c .before .before .before .head-at .ensures) in
-    omega arith
+    let k = c .before in
+    let a = k .before .before .before .before .args in
+    let f = k .head .given in
+    let h = stood (a .s .now) (a .at) (f .1) (k .before .before .head-at .ensures) in
+    omega (arith, h .within)
 
 sub-record-step : tie.Need-sub-record-step
 sub-record-step c = search needs
@@ -51,10 +51,11 @@ part-record-step-start c = search needs
 
 part-record-step-end : tie.Need-part-record-step-end
 part-record-step-end c =
-    let a = c .before .before .before .before .before .args in
-    let f = c .before .head .given in
-    let h : Standing (a .s .now) (a .at) (f .0 .0) (f .0 .1 .0) = subst (λ (x : Head). Stands (a .s .now) (a .at) x) (c .before .head .given .1) (c .before .before .before .head-at .ensures) in
-    omega arith
+    let k = c .before in
+    let a = k .before .before .before .before .args in
+    let f = k .head .given in
+    let h = stood (a .s .now) (a .at) (f .1) (k .before .before .head-at .ensures) in
+    omega (arith, h .within)
 
 record-step-requires : tie.Need-record-step-requires
 record-step-requires c κs = search needs
@@ -67,40 +68,47 @@ add-t25 c = search needs
 
 add-t26 : tie.Need-add-t26
 add-t26 c =
-    let a = c .before .before .before .before .before .before .before .before .before .before .args in
-    let f = c .before .before .before .before .before .before .head .given in
-    let h : Standing (a .s .now) (a .at) (f .0 .0) (f .0 .1 .0) = subst (λ (x : Head). Stands (a .s .now) (a .at) x) (c .before .before .before .before .before .before .head .given .1) (c .before .before .before .before .before .before .before .before .head-at .ensures) in
-    omega arith
+    let k = c .before .before .before .before .before .before in
+    let a = k .before .before .before .before .args in
+    let f = k .head .given in
+    let h = stood (a .s .now) (a .at) (f .1) (k .before .before .head-at .ensures) in
+    omega (arith, h .within)
 
 enum-known-step-2 : tie.Need-enum-known-step-2
 enum-known-step-2 c = search needs
 
 returns-2 : tie.Need-returns-2
 returns-2 c =
-    let a = c .before .before .before .before .before .before .args in
-    (over-end (a .s .now) (a .at) (a .st) (subst (λ (x : Head). Stands (a .s .now) (a .at) x) (c .before .before .enum-told .given .1) (c .before .before .before .before .head-at .ensures)) (c .if1 .left), c .before .before .before .before .before .before .pre .0)
+    let k = c .before .before in
+    let e = k .before .before .before .before in
+    let a = e .args in
+    (over-end (a .s .now) (a .at) (a .st) (told (a .s .now) (a .at) (k .enum-told .given .1) (k .before .before .head-at .ensures)) (c .if1 .left), e .pre .0)
 
 returns-3 : tie.Need-returns-3
 returns-3 c =
     let a = c .before .before .before .before .args in
-    (over-short (a .s .now) (a .at) (a .st) (subst (λ (x : Head). Stands (a .s .now) (a .at) x) (c .enum-told2 .given .1) (c .before .before .head-at .ensures)), tt)
+    (over-short (a .s .now) (a .at) (a .st) (told (a .s .now) (a .at) (c .enum-told2 .given .1) (c .before .before .head-at .ensures)), tt)
 
 returns-4 : tie.Need-returns-4
 returns-4 c =
-    let a = c .before .before .before .before .before .before .before .before .before .before .args in
-    let f = c .before .before .before .before .before .before .head .given in
-    let h : Standing (a .s .now) (a .at) (f .0 .0) (f .0 .1 .0) = subst (λ (x : Head). Stands (a .s .now) (a .at) x) (c .before .before .before .before .before .before .head .given .1) (c .before .before .before .before .before .before .before .before .head-at .ensures) in
+    let k = c .before .before .before .before .before .before in
+    let a = k .before .before .before .before .args in
+    let f = k .head .given in
+    let h = stood (a .s .now) (a .at) (f .1) (k .before .before .head-at .ensures) in
+    let g = c .before .before .before in
     let e = c .before .step .given in
-    goes (a .s .now) (a .at) (a .st) (f .0 .0) (f .0 .1 .0) h (c .before .before .before .record-step .result) (c .before .before .before .record-step .ensures .0) (e .0 .0) (e .1)
-    (subst Bounded (e .1) (c .before .before .before .record-step .ensures .1))
+    goes (a .s .now) (a .at) (a .st) (f .0 .0) (f .0 .1 .0) h (g .record-step .result) (g .record-step .ensures .0) (e .0 .0) (e .1)
+    (subst Bounded (e .1) (g .record-step .ensures .1))
 
 returns-5 : tie.Need-returns-5
 returns-5 c =
-    let a = c .before .before .before .before .before .before .before .before .before .before .args in
-    let f = c .before .before .before .before .before .before .head .given in
-    let h : Standing (a .s .now) (a .at) (f .0 .0) (f .0 .1 .0) = subst (λ (x : Head). Stands (a .s .now) (a .at) x) (c .before .before .before .before .before .before .head .given .1) (c .before .before .before .before .before .before .before .before .head-at .ensures) in
+    let k = c .before .before .before .before .before .before in
+    let a = k .before .before .before .before .args in
+    let f = k .head .given in
+    let h = stood (a .s .now) (a .at) (f .1) (k .before .before .head-at .ensures) in
+    let g = c .before .before .before in
     let e = c .before .step2 .given in
-    (stops (a .s .now) (a .at) (a .st) (f .0 .0) (f .0 .1 .0) h (c .before .before .before .record-step .result) (c .before .before .before .record-step .ensures .0) (e .0 .0) (e .1), tt)
+    (stops (a .s .now) (a .at) (a .st) (f .0 .0) (f .0 .1 .0) h (g .record-step .result) (g .record-step .ensures .0) (e .0 .0) (e .1), tt)
 
 pub turn-at-spec : {M : Type 1} → statement M
 turn-at-spec =

@@ -14,8 +14,8 @@ use Rattle.reversal.specs.Runs.{Run, last}
 use Rattle.reversal.specs.Chains.{none, planOf, legsOf}
 use Rattle.reversal.specs.Answers.{Allowed, Answer, refused, assembled}
 use Rattle.reversal.specs.Computed.Beliefs.{belief}
-use Rattle.reversal.specs.Computed.Least.{Rule, Linked, total, leasts, leastAt, chosen}
-use Rattle.reversal.specs.Computed.Assembly.{rule, numbers, answer}
+use Rattle.reversal.specs.Computed.Least.{Links, Linked, total, leasts, leastAt, chosen}
+use Rattle.reversal.specs.Computed.Assembly.{links, numbers, answer}
 use Rattle.reversal.proofs.Shortest.{leasts-length, leasts-at, least-most, chosen-linked}
 use Rattle.reversal.proofs.Assembling.{sound, total-cost}
 use Rattle.runs.specs.Computed.{runOf}
@@ -23,14 +23,14 @@ use Rattle.runs.proofs.Points.{last-is, command-is}
 use Rattle.assembly.specs.declared.Assembly.{Assembly}
 use Rattle.assembly.specs.declared.chain.Counts.{Counts}
 use Rattle.assembly.specs.Believed.{Believed}
-use Rattle.assembly.specs.Items.{Items, kOf, ItemsOf}
-use Rattle.assembly.specs.Rules.{ruleOf, Numbered}
+use Rattle.assembly.specs.Items.{Items, ItemsOf}
+use Rattle.assembly.specs.Links.{linksOf, Numbered}
 use Rattle.assembly.specs.ChainFollowed.{followed, Steps, planIn, legsIn, walk, Walkable, Walked}
 use Rattle.assembly.specs.Lent.{legsBytes, inBytes, Room}
 use Rattle.assembly.specs.Assembles.{refusal, resultOf}
 use Rattle.assembly.specs.Contract.{roomOf}
-use Rattle.assembly.proofs.RulesAgree.{Agree, numbered-same}
-use Rattle.assembly.proofs.ItemsFit.{rule-agrees}
+use Rattle.assembly.proofs.LinksAgree.{Agree, numbered-same}
+use Rattle.assembly.proofs.ItemsFit.{links-agree}
 use Rattle.assembly.proofs.FollowedIsChosen.{followed-chosen, linked-known, plan-same, legs-same}
 
 -- result, plan and legs hold the answer a
@@ -46,8 +46,8 @@ module _ (dev : Device) (items : List Item) (run : List ℕ) (allowed : Allowed 
   abbrev i : ℕ
   i = last r
 
-  abbrev Q : Rule
-  Q = rule dev r items
+  abbrev Q : Links
+  Q = links dev r items
 
   -- ---- code 10
   module _ (none-left : getD beliefs 0 0 ≡ 0) where
@@ -61,12 +61,12 @@ module _ (dev : Device) (items : List Item) (run : List ℕ) (allowed : Allowed 
         subst (λ (a : Answer). Stored a room w room) (sym answer-10) (record { result-is = e; room-is = refl })
 
   -- ---- codes 11 and 0
-  module _ (some : getD beliefs 0 0 ≡ 0 → ⊥) {fewest firsts : List ℕ} (fieldwise : Numbered (ruleOf F run beliefs (length items)) i fewest firsts) where
+  module _ (some : getD beliefs 0 0 ≡ 0 → ⊥) {fewest firsts : List ℕ} (fieldwise : Numbered (linksOf F run beliefs (length items)) i fewest firsts) where
     possible : belief dev r 0 ≡ 0 → ⊥
     possible e = some (believed .each 0 (omega arith) ∙ e)
 
-    agrees : Agree i (ruleOf F run beliefs (length items)) Q
-    agrees = rule-agrees dev r items F fields run beliefs (λ y q. command-is run y (omega (arith, last-is run))) (believed .each)
+    agrees : Agree i (linksOf F run beliefs (length items)) Q
+    agrees = links-agree dev r items F fields run beliefs (λ y q. command-is run y (omega (arith, last-is run))) (believed .each)
 
     num : Numbered Q i fewest firsts
     num = numbered-same agrees fieldwise

@@ -11,16 +11,16 @@ use Rattle.base.specs.Tests.{pick, both}
 use Rattle.base.specs.Bounded.{least}
 use Rattle.base.proofs.Tests.{true-T, both-l}
 use Rattle.base.proofs.Bounded.{least-le}
-use Rattle.reversal.specs.Computed.Least.{Rule, via}
+use Rattle.reversal.specs.Computed.Least.{Links, via}
 use Rattle.assembly.specs.Items.{Items, kOf}
-use Rattle.assembly.specs.Rules.{fitsAt, Chosen}
+use Rattle.assembly.specs.Links.{fitsAt, Chosen}
 
 -- an item that fits has room
 pub fits-room : (F : Items) (s sets : List ℕ) (a j : ℕ) → fitsAt F s sets a j ≡ true → kOf F a ≤ j
 unfolding fitsAt
 fits-room F s sets a j e = leb→le (kOf F a) j (both-l (leb (kOf F a) j) (both _ (both _ _)) (true-T (fitsAt F s sets a j) e))
 
-module _ (R : Rule) (ns : List ℕ) (j : ℕ) where
+module _ (R : Links) (ns : List ℕ) (j : ℕ) where
   via-fit : (a k r x : ℕ) → R .fit a j ≡ true → k ≡ R .k a → r ≡ R .price a → x ≡ getD ns (j - k) 0 → r + x ≡ via R ns j a
   unfolding via pick
   via-fit a k r x f p q e = rw (f, e, p, q)

@@ -13,7 +13,7 @@ use Rattle.base.specs.Masks.{inside}
 use Rattle.base.proofs.Bounded.{all-fails}
 use Rattle.runs.specs.Computed.{commandOf}
 use Rattle.assembly.specs.Items.{Items, kOf}
-use Rattle.assembly.specs.Rules.{sameAt, fitsAt}
+use Rattle.assembly.specs.Links.{sameAt, fitsAt}
 
 module _ (F : Items) (s sets : List ℕ) (a j : ℕ) where
   pub fits-short : j < kOf F a → false ≡ fitsAt F s sets a j

@@ -1,4 +1,4 @@
--- Following the items that the numbers name is the chosen chain, for any rule; its plan and legs are those of the items. Assumes nothing.
+-- Following the items that the numbers name is the chosen chain, for any links; its plan and legs are those of the items. Assumes nothing.
 use mathlib.Core.Path.{_≡_, refl, sym, ap, ap₂, _∙_, subst}
 use mathlib.Core.List.{List, [], _∷_, _++_}
 use Prim.Native.Nat.{ℕ, zero, suc, _-_, _≤_, _<_}
@@ -9,14 +9,14 @@ use Rattle.base.specs.Lists.{Each}
 use Rattle.base.specs.Bounded.{seek}
 use Rattle.reversal.specs.Reversal.{Item}
 use Rattle.reversal.specs.Chains.{lower, planOf, legsOf}
-use Rattle.reversal.specs.Computed.Least.{Rule, Linked, total, leastAt, begins, chosen}
+use Rattle.reversal.specs.Computed.Least.{Links, Linked, total, leastAt, begins, chosen}
 use Rattle.reversal.proofs.Shortest.{chosen-linked, least-chain}
 use Rattle.assembly.specs.Items.{Items, kOf, ItemsOf}
-use Rattle.assembly.specs.Rules.{Numbered}
+use Rattle.assembly.specs.Links.{Numbered}
 use Rattle.assembly.specs.ChainFollowed.{followed, Steps, planIn, legBytes, legsIn}
 use Rattle.assembly.specs.Lent.{legsBytes}
 
-module _ (R : Rule) (sound : (a j : ℕ) → a < R .count → T (R .fit a j) → (0 < R .k a) × (R .k a ≤ j))
+module _ (R : Links) (sound : (a j : ℕ) → a < R .count → T (R .fit a j) → (0 < R .k a) × (R .k a ≤ j))
     (F : Items) (k : (a : ℕ) → a < R .count → kOf F a ≡ R .k a) {i : ℕ} {fewest firsts : List ℕ} (num : Numbered R i fewest firsts) where
   pub followed-chosen : (f j : ℕ) → j ≤ f → j ≤ i → leastAt R j < R .top → (followed F firsts f j ≡ chosen R f j) × Steps F firsts f j
   unfolding followed Steps chosen
@@ -50,8 +50,8 @@ module _ (R : Rule) (sound : (a j : ℕ) → a < R .count → T (R .fit a j) →
       least : leastAt R (suc j - R .k a) < R .top
       least = omega (arith, linked .1, least-chain R sound (chosen R f (suc j - R .k a)) (suc j - R .k a) (linked .0 .2))
 
--- the items of a chain are the rule's
-pub linked-known : (R : Rule) (xs : List ℕ) (j : ℕ) → Linked R j xs → Each (λ a. a < R .count) xs
+-- the items of a chain are the links'
+pub linked-known : (R : Links) (xs : List ℕ) (j : ℕ) → Linked R j xs → Each (λ a. a < R .count) xs
 linked-known R [] j c = tt
 linked-known R (a ∷ xs) j c = (c .0, linked-known R xs (j - R .k a) (c .2))
 

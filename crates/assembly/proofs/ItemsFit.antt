@@ -1,4 +1,4 @@
--- Whether an item fits, as the code tests it, is whether reversal's item fits; so the two rules agree. Assumes nothing.
+-- Whether an item fits, as the code tests it, is whether reversal's item fits; so the links agree. Assumes nothing.
 use mathlib.Core.Path.{_≡_, refl, sym, ap, _∙_}
 use mathlib.Core.Bool.{Bool, false}
 use mathlib.Core.List.{List}
@@ -19,12 +19,12 @@ use Rattle.reversal.specs.Reversal.{Item}
 use Rattle.reversal.specs.Runs.{Run, last, command}
 use Rattle.reversal.specs.Chains.{item}
 use Rattle.reversal.specs.Computed.Beliefs.{belief}
-use Rattle.reversal.specs.Computed.Assembly.{sameList, fits, rule}
+use Rattle.reversal.specs.Computed.Assembly.{sameList, fits, links}
 use Rattle.reversal.proofs.Fitting.{same-eq, eq-same}
 use Rattle.runs.specs.Computed.{commandOf}
 use Rattle.assembly.specs.Items.{Items, ItemsOf}
-use Rattle.assembly.specs.Rules.{sameAt, fitsAt, ruleOf}
-use Rattle.assembly.proofs.RulesAgree.{Agree}
+use Rattle.assembly.specs.Links.{sameAt, fitsAt, linksOf}
+use Rattle.assembly.proofs.LinksAgree.{Agree}
 
 both-false : (b : Bool) → both false b ≡ false
 unfolding both
@@ -81,8 +81,8 @@ module _ (d : Device) (r : Run) (items : List Item) (F : Items) (fields : ItemsO
         go (no h) = rw (same-is (omega arith), beliefs j below, beliefs low (omega arith))
 
   -- ---- all items
-  pub rule-agrees : Agree (last r) (ruleOf F s sets (length items)) (rule d r items)
-  rule-agrees =
+  pub links-agree : Agree (last r) (linksOf F s sets (length items)) (links d r items)
+  links-agree =
       record {
         count-same = refl;
         top-same = refl;

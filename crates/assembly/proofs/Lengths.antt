@@ -11,7 +11,7 @@ use Rattle.base.proofs.Sizes.{short-after, long-off}
 use Rattle.book.specs.Book.{Book}
 use Rattle.book.specs.Lent.{sizes}
 use Rattle.reader.specs.Contract.{readBy}
-use Rattle.reader.proofs.Answers.{tested-again}
+use Rattle.reader.proofs.Ways.{tested-again}
 use Rattle.assembly.specs.Lent.{LegForm, AllLent, roomSizes, allSizes}
 
 module _ {A E : Type 0} (form : LegForm E) (l : AllLent E) where

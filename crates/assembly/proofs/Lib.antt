@@ -3,7 +3,7 @@ pub mod FitTests
 pub mod BestItem
 pub mod Numbers
 pub mod ChainWritten
-pub mod RulesAgree
+pub mod LinksAgree
 pub mod ItemsFit
 pub mod FollowedIsChosen
 pub mod AnswerReached

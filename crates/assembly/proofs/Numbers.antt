@@ -13,11 +13,11 @@ use Rattle.base.specs.Tests.{pick}
 use Rattle.base.specs.Bounded.{seek}
 use Rattle.base.proofs.Tests.{both-l, both-r, both-of, eq-T, pick-yes, pick-no}
 use Rattle.base.proofs.Bounded.{least-same, seek-hit, seek-low}
-use Rattle.reversal.specs.Computed.Least.{Rule, via, leasts, leastAt, begins}
+use Rattle.reversal.specs.Computed.Least.{Links, via, leasts, leastAt, begins}
 use Rattle.reversal.proofs.Shortest.{leasts-length, leasts-at, least-suc}
-use Rattle.assembly.specs.Rules.{Chosen, Numbered}
+use Rattle.assembly.specs.Links.{Chosen, Numbered}
 
-module _ (R : Rule) (moving : (a : ℕ) → a < R .count → 1 ≤ R .k a) where
+module _ (R : Links) (moving : (a : ℕ) → a < R .count → 1 ≤ R .k a) where
   -- the numbers so far, and the top above
   abbrev padded : ℕ → List ℕ
   padded j = leasts R j ++ replicate (32 - j) (R .top)

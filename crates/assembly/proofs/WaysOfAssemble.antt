@@ -30,7 +30,7 @@ use Rattle.assembly.specs.declared.Assembly.{Assembly}
 use Rattle.assembly.specs.declared.chain.Counts.{Counts}
 use Rattle.assembly.specs.Believed.{Believed}
 use Rattle.assembly.specs.Items.{ItemsOf}
-use Rattle.assembly.specs.Rules.{ruleOf, Moving, Numbered}
+use Rattle.assembly.specs.Links.{linksOf, Moving, Numbered}
 use Rattle.assembly.specs.ChainFollowed.{Walkable, Walked}
 use Rattle.assembly.specs.Lent.{inBytes, Room, AllLent, roomSizes, allSizes}
 use Rattle.assembly.specs.Assembles.{refusal, resultOf}
@@ -179,7 +179,7 @@ pub record NumbersKnown (beliefs : List ℕ) (i : ℕ) (fewest firsts : List ℕ
   pub believed : Believed (tabled (f .n) (f .m) (read .table)) (runOf run) beliefs
   pub some : getD beliefs 0 0 ≡ 0 → ⊥
   pub last-point : i ≡ lastOf run
-  pub num : Numbered (ruleOf (itemAt (read .slots)) run beliefs (f .items)) i fewest firsts
+  pub num : Numbered (linksOf (itemAt (read .slots)) run beliefs (f .items)) i fewest firsts
 
 module _ {beliefs : List ℕ} {i : ℕ} {fewest firsts book run : List ℕ} {l : AllLent ℕ} {f : Reading} {read : Lent}
     (k : NumbersKnown beliefs i fewest firsts book run l f read) where
@@ -189,8 +189,8 @@ module _ {beliefs : List ℕ} {i : ℕ} {fewest firsts book run : List ℕ} {l :
   i-is : i ≡ last (runOf run)
   i-is = k .last-point ∙ last-is run
 
-  num′ : Numbered (ruleOf (itemAt (read .slots)) run beliefs (length (B w .items))) (last (runOf run)) fewest firsts
-  num′ = subst₂ (λ (n j : ℕ). Numbered (ruleOf (itemAt (read .slots)) run beliefs n) j fewest firsts) (items-is (h w) (z w)) i-is (k .num)
+  num′ : Numbered (linksOf (itemAt (read .slots)) run beliefs (length (B w .items))) (last (runOf run)) fewest firsts
+  num′ = subst₂ (λ (n j : ℕ). Numbered (linksOf (itemAt (read .slots)) run beliefs n) j fewest firsts) (items-is (h w) (z w)) i-is (k .num)
 
   number-is : getD fewest i 0 ≡ getD fewest (last (runOf run)) 0
   number-is = ap (λ (j : ℕ). getD fewest j 0) i-is

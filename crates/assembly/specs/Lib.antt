@@ -1,6 +1,6 @@
 pub mod Believed
 pub mod Items
-pub mod Rules
+pub mod Links
 pub mod ChainFollowed
 pub mod Lent
 pub mod Assembles

@@ -3,7 +3,7 @@ use states::StateSet;
 ghost use mathlib.Core.Path.{_≡_};
 ghost use Prim.Native.Nat.{_≤_, _<_};
 ghost use Rattle.book.specs.Slots.{itemAt};
-ghost use Rattle.assembly.specs.Rules.{fitsAt, ruleOf, Chosen, Moving, Numbered};
+ghost use Rattle.assembly.specs.Links.{fitsAt, linksOf, Chosen, Moving, Numbered};
 
 // Whether the item fits from point j, by the possible states at both ends.
 fn fits_at(slots: &[u8], a: u8, run: &[u8], sets: &[u64; 33], j: u64) -> bool
@@ -41,7 +41,7 @@ pub struct Choice {
 // The fewest commands from point j by any item, with those of the points below it known; among equals the lowest item.
 fn best(slots: &[u8], count: u8, run: &[u8], sets: &[u64; 33], fewest: &[u16; 33], j: u64) -> Choice
     requires { ⌜ (count ≤ 64) × (j ≤ 32) ⌝ }
-    ensures { λ r. ⌜ Chosen (ruleOf (itemAt (now (slots .entry))) (now (run .entry)) (now (sets .entry)) count)
+    ensures { λ r. ⌜ Chosen (linksOf (itemAt (now (slots .entry))) (now (run .entry)) (now (sets .entry)) count)
         (now (fewest .entry)) j count (r .number) (r .item) ⌝ }
 {
     let mut number: u64 = 65535;
@@ -71,7 +71,7 @@ pub struct Points {
 // The numbers from point 0 upward; each point tries each item once.
 pub(crate) fn points_of(slots: &[u8], count: u64, run: &[u8], sets: &[u64; 33], i: u64) -> Points
     requires { ⌜ (count ≤ 64) × (i ≤ 32) × Moving (itemAt (now slots)) count ⌝ }
-    ensures { λ r. ⌜ Numbered (ruleOf (itemAt (now (slots .entry))) (now (run .entry)) (now (sets .entry)) count) i (r .fewest) (r .items) ⌝ }
+    ensures { λ r. ⌜ Numbered (linksOf (itemAt (now (slots .entry))) (now (run .entry)) (now (sets .entry)) count) i (r .fewest) (r .items) ⌝ }
 {
     let mut fewest = [65535u16; 33];
     let mut items = [0u8; 33];

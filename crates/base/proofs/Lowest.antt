@@ -37,14 +37,14 @@ module _ (g : ℕ → Bool) (k : ℕ) where
     wrong-there l p = false≢true (sym (fails l) ∙ tells .of failing l p)
 
     pub lowest-wrong : failing < k → LowestWrong P k failing
-    lowest-wrong l = record { inside = l; wrong = wrong-there l; lower = λ j h. tells .on j (omega arith) (passes j h (omega arith)) }
+    lowest-wrong l = record { inside = l; wrong = wrong-there l; before = λ j h. tells .on j (omega arith) (passes j h (omega arith)) }
 
     pub none-wrong : k ≤ failing → (i : ℕ) → i < k → P i
     none-wrong l i h = tells .on i h (passes i (omega arith) h)
 
     pub wrong-lowest : (i : ℕ) → LowestWrong P k i → failing ≡ i
     wrong-lowest i w =
-        let a : failing < i → ⊥ = λ l. wrong-there (omega (arith, w .inside)) (w .lower failing (omega arith)) in
+        let a : failing < i → ⊥ = λ l. wrong-there (omega (arith, w .inside)) (w .before failing (omega arith)) in
         let b : i < failing → ⊥ = λ l. w .wrong (tells .on i (w .inside) (passes i l (w .inside))) in
         omega arith
 
@@ -56,6 +56,6 @@ module _ (g : ℕ → Bool) (k : ℕ) where
 -- there is one at most
 pub one-lowest : {P : ℕ → Type 0} {k i j : ℕ} → LowestWrong P k i → LowestWrong P k j → i ≡ j
 one-lowest {i = i} {j} f g =
-    let a : i < j → ⊥ = λ l. f .wrong (g .lower i (omega arith)) in
-    let b : j < i → ⊥ = λ l. g .wrong (f .lower j (omega arith)) in
+    let a : i < j → ⊥ = λ l. f .wrong (g .before i (omega arith)) in
+    let b : j < i → ⊥ = λ l. g .wrong (f .before j (omega arith)) in
     omega arith

@@ -5,4 +5,4 @@ use Prim.Native.Nat.{ℕ, _<_}
 pub record LowestWrong (P : ℕ → Type 0) (k i : ℕ) : Type 0 where
   pub inside : i < k
   pub wrong : P i → ⊥
-  pub lower : (j : ℕ) → j < i → P j
+  pub before : (j : ℕ) → j < i → P j

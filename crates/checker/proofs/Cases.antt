@@ -17,7 +17,7 @@ use Rattle.reversal.specs.Reversal.{Accepted}
 use Rattle.reversal.specs.Twelve.{made, itemsQ}
 use Rattle.reversal.specs.Computed.Sets.{after, able, reach, runsBack, ends, startOk, accepts}
 use Rattle.reversal.proofs.Cases.{twelve}
-use Rattle.book.specs.Book.{Book, outcomeOf, frame, bytesOf}
+use Rattle.book.specs.Book.{Book, outcomeOf, frame}
 use Rattle.book.specs.Parse.{parse, cutAfter, scan, kindOf, step, moveOf, itemOf, movesIn, itemsIn}
 use Rattle.book.specs.Limits.{deviceFine, moveFine, countsFine, allBelow, fieldsFine}
 use Rattle.book.specs.Parse.Parsed.{Ok}
@@ -27,7 +27,7 @@ use Rattle.book.proofs.Reading.{parse-fine}
 use Rattle.book.proofs.Example.{bytes-bookQ, allowed-bookQ, device-bookQ}
 use Rattle.reader.specs.Reads.{refusal}
 use Rattle.reader.proofs.Cases.{bytes-Q}
-use Rattle.checker.specs.Checks.{AcceptedBook, placeOf, FirstWrong}
+use Rattle.checker.specs.Checks.{AcceptedBook, placeOf}
 use Rattle.checker.specs.Cases.{Judges, QChecked}
 use Rattle.checker.specs.Contract.{wrongItem}
 use Rattle.checker.proofs.Exactly.{first-wrong}

@@ -1,6 +1,6 @@
 -- The contract of checking gives what 01 says; the first item that the test turns down is the first that is no conditional reverse plan by
 -- trajectories. Assumes nothing.
-use mathlib.Core.Path.{_≡_, refl, ap, _∙_}
+use mathlib.Core.Path.{_≡_, ap, _∙_}
 use mathlib.Core.Bool.{true}
 use mathlib.Core.Logic.{_↔_}
 use mathlib.Core.List.{List}
@@ -31,7 +31,7 @@ use Rattle.book.proofs.Codes.{refusal-codes}
 use Rattle.reader.specs.declared.Reading.{Reading}
 use Rattle.reader.specs.Reads.{refusal, done}
 use Rattle.reader.specs.Reads as reads
-use Rattle.reader.proofs.Answers.{Way, by-short, by-fault, by-book, way, when-short, when-faulty, when-fine}
+use Rattle.reader.proofs.Ways.{Way, by-short, by-fault, by-book, way, when-short, when-faulty, when-fine}
 use Rattle.reader.proofs.Exactly.{filled}
 use Rattle.checker.specs.declared.Judgement.{Judgement}
 use Rattle.checker.specs.Checks.{placeOf, FirstWrong, Checks, unread, wrong, fine}

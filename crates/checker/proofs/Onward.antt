@@ -14,7 +14,7 @@ use Rattle.book.specs.Buffers.{lentOf}
 use Rattle.book.proofs.Reading.{parse-bytes}
 use Rattle.reader.specs.declared.Reading.{Reading}
 use Rattle.reader.specs.Reads.{done}
-use Rattle.reader.proofs.Answers.{Way, by-short, by-fault, by-book, way, when-short, when-faulty, when-fine}
+use Rattle.reader.proofs.Ways.{Way, by-short, by-fault, by-book, way, when-short, when-faulty, when-fine}
 use Rattle.checker.specs.Checks.{AcceptedBook}
 use Rattle.checker.specs.Contract.{wrongItem, judgedBy, checkBy, CheckAs}
 use Rattle.checker.proofs.Exactly.{by-wrong, by-none, none-wrong, result-short, result-faulty, result-wrong, result-fine, checks}

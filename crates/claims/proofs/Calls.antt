@@ -12,7 +12,7 @@ use Rattle.checker.proofs.Exactly.{checks}
 use Rattle.checker.proofs.Unique.{zero↔ as check-zero↔, eight↔}
 use Rattle.checker.proofs.check as check
 use Rattle.writer.specs.Contract.{WriteAs}
-use Rattle.writer.proofs.Answers.{writes}
+use Rattle.writer.proofs.Exactly.{writes}
 use Rattle.writer.proofs.RoundTrips.{writes-zero↔, write-well-formed, write-length}
 use Rattle.writer.proofs.write as write
 use Rattle.assembly.specs.declared.Assembly.{Assembly}
@@ -23,7 +23,7 @@ use Rattle.assembly.proofs.Exactly.{even-bytes, assembles}
 use Rattle.assembly.proofs.Demand.{demand}
 use Rattle.assembly.proofs.assemble as assemble
 use Rattle.ridge.specs.Computed.{lookupOf}
-use Rattle.ridge.proofs.Answers.{looked}
+use Rattle.ridge.proofs.Exactly.{looked}
 use Rattle.ridge.proofs.lookup as lookup
 use Rattle.planner.specs.Structs.{inStructs}
 use Rattle.planner.proofs.Structs.{even-structs}

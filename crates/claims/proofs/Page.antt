@@ -46,7 +46,7 @@ use Rattle.checker.proofs.check.Met.{met as check-met}
 use Rattle.writer.specs.declared.Writing.{Writing}
 use Rattle.writer.specs.Writes.{Writes}
 use Rattle.writer.specs.Cases as write-example
-use Rattle.writer.proofs.Answers.{writes-unique}
+use Rattle.writer.proofs.Exactly.{writes-unique}
 use Rattle.writer.proofs.Cases as write-cases
 use Rattle.writer.proofs.write.Symbol.{routine as write-routine}
 use Rattle.writer.proofs.write.Met.{met as write-met}
@@ -66,7 +66,7 @@ use Rattle.assembly.proofs.assemble.Met.{met as assemble-met}
 use Rattle.ridge.specs.declared.LookupResult.{LookupResult}
 use Rattle.ridge.specs.Lookup.{Looked}
 use Rattle.ridge.specs.Figures.{Figures}
-use Rattle.ridge.proofs.Answers.{looked-unique}
+use Rattle.ridge.proofs.Exactly.{looked-unique}
 use Rattle.ridge.proofs.Figures.{figures}
 use Rattle.ridge.proofs.lookup.Symbol.{routine as lookup-routine}
 use Rattle.ridge.proofs.lookup.Met.{met as lookup-met}

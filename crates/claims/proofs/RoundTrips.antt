@@ -16,7 +16,7 @@ use Rattle.reader.specs.declared.Reading.{Reading}
 use Rattle.reader.specs.Reads.{done, Filled, Reads, short, faulty, fine}
 use Rattle.writer.specs.declared.Writing.{Writing}
 use Rattle.writer.specs.Writes.{buffers, BookWritten, Writes}
-use Rattle.writer.proofs.Answers.{held-written}
+use Rattle.writer.proofs.Exactly.{held-written}
 use Rattle.writer.proofs.RoundTrips.{done-of, book-bytes}
 use Rattle.claims.specs.Claims.{GivenBack, ReadBack, WriteBack}
 

@@ -1,14 +1,13 @@
 -- A number and its bytes: each undoes the other. Assumes nothing.
-use mathlib.Core.Path.{_≡_, refl, ap, _∙_}
-use mathlib.Core.List.{List, [], _∷_, _++_, append-assoc}
-use Prim.Native.Nat.{ℕ, zero, suc, _+_, _*_, _/_, _%_, _^_, _<_, _≤_}
+use mathlib.Core.Path.{_≡_, refl, ap}
+use mathlib.Core.List.{List, [], _∷_}
+use Prim.Native.Nat.{ℕ, zero, suc, _+_, _*_, _/_, _%_, _^_, _<_}
 use native.Mathlib.Nat.{pow-suc}
 use native.Mathlib.Omega.{arith}
-use lib.ListN.{length, take, drop}
-use lib.Seq.{length-take-le, sets, sets-eq, take-at, drop-at}
+use lib.ListN.{length}
 use Rattle.base.specs.Lists.{Each}
 use Rattle.octets.specs.Le.{bytesLe}
-use Rattle.octets.specs.Parts.{le, leAt}
+use Rattle.octets.specs.Parts.{le}
 
 pub length-bytesLe : (n v : ℕ) → length (bytesLe n v) ≡ n
 unfolding bytesLe

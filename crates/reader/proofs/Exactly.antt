@@ -17,7 +17,7 @@ use Rattle.book.proofs.Lent.{lent-read}
 use Rattle.reader.specs.declared.Reading.{Reading}
 use Rattle.reader.specs.Reads.{refusal, done, Filled, Reads, short, faulty, fine}
 use Rattle.reader.specs.Contract.{readBy, lentBy, ReadAs}
-use Rattle.reader.proofs.Answers.{Way, by-short, by-fault, by-book, way, when-short, when-faulty, when-fine}
+use Rattle.reader.proofs.Ways.{Way, by-short, by-fault, by-book, way, when-short, when-faulty, when-fine}
 
 -- ---- for callers that go on with what was read
 

@@ -8,8 +8,8 @@ use lib.ListN.{getD, take, drop}
 use lib.Seq.{drop-drop}
 use Rattle.octets.specs.Parts.{le, leAt}
 use Rattle.book.specs.declared.Kind.{Kind}
-use Rattle.book.specs.declared.Numbered.{Numbered}
-use Rattle.book.specs.declared.Numbered.the-variants.{Of, Unknown}
+use Rattle.book.specs.declared.MaybeKind.{MaybeKind}
+use Rattle.book.specs.declared.MaybeKind.the-variants.{Known, Unknown}
 use Rattle.book.specs.declared.State.{State}
 use Rattle.book.specs.declared.Step.{Step}
 use Rattle.book.specs.declared.Step.the-variants.{Stop}
@@ -59,11 +59,11 @@ module _ (body : List ℕ) (k r : ℕ) (ok : Counted body k r) where
   item-is phi psi p q = rw (forward-is, reverse-is, p, phi-is, q, psi-is)
 
 -- ---- a record by its number
-module _ (st : State) (number : ℕ) (body : List ℕ) (x : Numbered) (e : x ≡ kindOf number) where
+module _ (st : State) (number : ℕ) (body : List ℕ) (x : MaybeKind) (e : x ≡ kindOf number) where
   pub step-unknown : x ≡ Unknown → Stop 3 ≡ step st (rec number body)
   unfolding step
-  step-unknown f = ap (λ (y : Numbered). judged y st body) (sym f ∙ e)
+  step-unknown f = ap (λ (y : MaybeKind). judged y st body) (sym f ∙ e)
 
-  pub step-of : (j k : Kind) (v : Step) → x ≡ Of j → j ≡ k → v ≡ judgedAs k st body → v ≡ step st (rec number body)
+  pub step-of : (j k : Kind) (v : Step) → x ≡ Known j → j ≡ k → v ≡ judgedAs k st body → v ≡ step st (rec number body)
   unfolding step
-  step-of j k v f g h = h ∙ ap (λ (y : Numbered). judged y st body) (ap Of (sym g) ∙ (sym f ∙ e))
+  step-of j k v f g h = h ∙ ap (λ (y : MaybeKind). judged y st body) (ap Known (sym g) ∙ (sym f ∙ e))

@@ -2,7 +2,7 @@ pub mod Laws
 pub mod Turns
 pub mod Stores
 pub mod Filling
-pub mod Answers
+pub mod Ways
 pub mod Exactly
 pub mod Unique
 pub mod Cases

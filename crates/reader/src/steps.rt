@@ -1,33 +1,33 @@
 // The judgement of one record.
 use book::Kind;
-use book::Numbered;
+use book::MaybeKind;
 use book::State;
 use book::Step;
 ghost use mathlib.Core.Path.{_≡_};
-ghost use Rattle.book.specs.declared.Kind.the-variants.{ADevice, AMove, AnItem};
+ghost use Rattle.book.specs.declared.Kind.the-variants.{DeviceRecord, MoveRecord, ItemRecord};
 ghost use Rattle.book.specs.Limits.{fieldsFine};
 ghost use Rattle.book.specs.Parse.{kindOf, itemOf, judgedAs, step};
 ghost use Rattle.reader.specs.Judged.{Limits, Bounded, Counted, rec};
 
 // The kind with this number.
-fn kind_of(number: u64) -> Numbered
+fn kind_of(number: u64) -> MaybeKind
     ensures { λ r. ⌜ r ≡ kindOf number ⌝ }
 {
     if number == 1 {
-        return Numbered::Of(Kind::ADevice);
+        return MaybeKind::Known(Kind::DeviceRecord);
     }
     if number == 2 {
-        return Numbered::Of(Kind::AMove);
+        return MaybeKind::Known(Kind::MoveRecord);
     }
     if number == 3 {
-        return Numbered::Of(Kind::AnItem);
+        return MaybeKind::Known(Kind::ItemRecord);
     }
-    Numbered::Unknown
+    MaybeKind::Unknown
 }
 
 // A device record: n and m.
 fn device_step(st: State, body: &[u8]) -> Step
-    ensures { λ r. ⌜ r ≡ judgedAs ADevice st (now (body .entry)) ⌝ }
+    ensures { λ r. ⌜ r ≡ judgedAs DeviceRecord st (now (body .entry)) ⌝ }
     ensures { λ r. ⌜ Bounded r ⌝ }
 {
     if st.phase != 0 {
@@ -53,7 +53,7 @@ fn device_step(st: State, body: &[u8]) -> Step
 // A move record: state, command and mask.
 fn move_step(st: State, body: &[u8]) -> Step
     requires { ⌜ Limits st ⌝ }
-    ensures { λ r. ⌜ r ≡ judgedAs AMove st (now (body .entry)) ⌝ }
+    ensures { λ r. ⌜ r ≡ judgedAs MoveRecord st (now (body .entry)) ⌝ }
     ensures { λ r. ⌜ Bounded r ⌝ }
 {
     if st.phase != 1 {
@@ -94,7 +94,7 @@ fn item_fine(body: &[u8], k: usize, r: usize, n: u64, m: u64) -> bool
 // An item record.
 fn item_step(st: State, body: &[u8]) -> Step
     requires { ⌜ Limits st ⌝ }
-    ensures { λ x. ⌜ x ≡ judgedAs AnItem st (now (body .entry)) ⌝ }
+    ensures { λ x. ⌜ x ≡ judgedAs ItemRecord st (now (body .entry)) ⌝ }
     ensures { λ x. ⌜ Bounded x ⌝ }
 {
     if st.phase < 1 {
@@ -133,11 +133,11 @@ pub(crate) fn record_step(st: State, number: u64, body: &[u8]) -> Step
     ensures { λ x. ⌜ Bounded x ⌝ }
 {
     match kind_of(number) {
-        Numbered::Unknown => Step::Stop(3),
-        Numbered::Of(kind) => match kind {
-            Kind::ADevice => device_step(st, body),
-            Kind::AMove => move_step(st, body),
-            Kind::AnItem => item_step(st, body),
+        MaybeKind::Unknown => Step::Stop(3),
+        MaybeKind::Known(kind) => match kind {
+            Kind::DeviceRecord => device_step(st, body),
+            Kind::MoveRecord => move_step(st, body),
+            Kind::ItemRecord => item_step(st, body),
         },
     }
 }

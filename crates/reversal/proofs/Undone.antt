@@ -1,9 +1,8 @@
 -- Plans that do not undo a run, each by one history: Q5's run from 0 to 1 with the empty plan and with a plan that is stuck in 1; a run from 2
 -- with a plan that ends in 0. Assumes nothing.
 use mathlib.Core.Path.{_≡_, refl}
-use mathlib.Core.List.{List, [], _∷_}
+use mathlib.Core.List.{[], _∷_}
 use Prim.Native.Nat.{ℕ, zero, suc, _≤_, _<_}
-use native.Mathlib.Nat.{not-suc-le-zero, le-of-suc-le-suc}
 use native.Mathlib.Omega.{arith}
 use lib.Dec.{lit<}
 use Rattle.base.specs.Sets.{In}

@@ -1,17 +1,11 @@
 -- The ridge repeater's figures. Assumes nothing.
-use mathlib.Core.Path.{_≡_, refl}
-use Prim.Native.Nat.{ℕ, _+_, _*_, _≤_}
+use mathlib.Core.Path.{refl}
 use native.Mathlib.Omega.{arith}
 use Rattle.base.specs.Tests.{pick}
 use Rattle.base.specs.Bounded.{union}
-use Rattle.ridge.specs.Ridge.{channel, power, mode}
 use Rattle.ridge.specs.Figures.{Figures}
 use Rattle.ridge.specs.Computed.{single, ruleMask, lookupOf}
-use Rattle.ridge.proofs.Answers.{looked}
-
--- "State = c + 4 × p + 16 × q: channel c, power p, mode q, each 0 to 3"
-pub coordinates : (s : ℕ) → s ≤ 63 → (s ≡ channel s + 4 * power s + 16 * mode s) × (channel s ≤ 3) × (power s ≤ 3) × (mode s ≤ 3)
-coordinates s h = omega arith
+use Rattle.ridge.proofs.Exactly.{looked}
 
 -- each mask computed, and carried to the relation
 pub figures : Figures

@@ -18,11 +18,11 @@ use Rattle.book.specs.Lent.{Lent}
 use Rattle.book.specs.Slots.{itemAt, slotFine}
 use Rattle.book.proofs.Fields.{all-on}
 use Rattle.writer.specs.declared.Writing.{Writing}
-use Rattle.writer.specs.Checks.{lowestEntry, lowestSlot}
+use Rattle.writer.specs.Lowest.{lowestEntry, lowestSlot}
 use Rattle.writer.specs.Contract.{checked}
 use Rattle.writer.specs.Writes.{Refuses, refusal, written}
 use Rattle.writer.specs.Cases.{Spoilt}
-use Rattle.writer.proofs.Answers.{judged, Judged, refused-is, fine-is}
+use Rattle.writer.proofs.Exactly.{judged, Judged, refused-is, fine-is}
 
 refused-by : (n m items : ℕ) (l : Lent) (out : List ℕ) (code place : ℕ) → allBelow 256 (l .slots) ≡ true
     → checked n m items l out refusal (written 0) ≡ refusal code place → 0 < code → Refuses n m items l out code place

@@ -23,7 +23,7 @@ use Rattle.book.specs.Slots.{itemAt, slotFine}
 use Rattle.book.proofs.Slots.{item-fine}
 use Rattle.book.proofs.Limits.{device-of, device-off}
 use Rattle.writer.specs.Records.{CountsFine}
-use Rattle.writer.specs.Checks.{lowestEntry, lowestSlot}
+use Rattle.writer.specs.Lowest.{lowestEntry, lowestSlot}
 use Rattle.writer.specs.Contract.{checked}
 use Rattle.writer.specs.Writes.{buffers}
 

@@ -2,6 +2,6 @@ pub mod Stores
 pub mod Rows
 pub mod Scans
 pub mod Chain
-pub mod Answers
+pub mod Exactly
 pub mod RoundTrips
 pub mod Cases

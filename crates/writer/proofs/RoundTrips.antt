@@ -15,7 +15,7 @@ use Rattle.writer.specs.declared.Writing.{Writing}
 use Rattle.writer.specs.Writes.{buffers, Refuses, BookWritten, Writes}
 use Rattle.writer.specs.Writes.Refuses.{short, device, count, entry, slot}
 use Rattle.writer.specs.Writes.Writes.{refused, done}
-use Rattle.writer.proofs.Answers.{held-written}
+use Rattle.writer.proofs.Exactly.{held-written}
 
 -- the first bytes of the output are the book's
 pub book-bytes : {book out : List ℕ} {r : Writing} {out′ : List ℕ} → BookWritten book out r out′ → take (r .length) out′ ≡ book

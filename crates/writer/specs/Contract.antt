@@ -1,4 +1,4 @@
--- The contract of `write`: the result and the output, by one chain of tests in 01's order. Writes says what it means; proofs/Answers ties the two,
+-- The contract of `write`: the result and the output, by one chain of tests in 01's order. Writes says what it means; proofs/Exactly ties the two,
 -- both ways. Assumes nothing: these are definitions.
 use mathlib.Core.Path.{_≡_}
 use mathlib.Core.Bool.{not}
@@ -14,7 +14,7 @@ use Rattle.book.specs.Book.{bytesOf}
 use Rattle.book.specs.Limits.{deviceFine}
 use Rattle.book.specs.Lent.{Lent}
 use Rattle.book.specs.Buffers.{bookFrom}
-use Rattle.writer.specs.Checks.{lowestEntry, lowestSlot}
+use Rattle.writer.specs.Lowest.{lowestEntry, lowestSlot}
 use Rattle.writer.specs.Writes.{buffers, refusal, written}
 use Rattle.writer.specs.declared.Writing.{Writing}
 

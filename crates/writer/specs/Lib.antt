@@ -1,5 +1,5 @@
 pub mod Writes
 pub mod Records
-pub mod Checks
+pub mod Lowest
 pub mod Contract
 pub mod Cases

@@ -2,7 +2,7 @@
 ghost use mathlib.Core.Path.{_≡_};
 ghost use Prim.Native.Nat.{_≤_};
 ghost use lib.ListN.{getD};
-ghost use Rattle.writer.specs.Checks.{lowestEntry, lowestSlot};
+ghost use Rattle.writer.specs.Lowest.{lowestEntry, lowestSlot};
 
 // The entry i of a table, or 0 past its end.
 pub(crate) fn entry_at(t: &[u64], i: usize) -> u64

@@ -4,7 +4,7 @@ use Prim.Native.Nat.{ℕ}
 use Rattle.reader.specs.Reads.{refusal}
 use Rattle.checker.specs.declared.Judgement.{Judgement}
 use Rattle.checker.specs.Contract.{onJudgement}
-use Rattle.checker.proofs.Answers.{passed-on, asked, judged}
+use Rattle.checker.proofs.Ways.{passed-on, asked, judged}
 use borrow.Author.Needs.{needs}
 use Rattle.checker.proofs.check.Statement.{statement}
 use Rattle.checker.proofs.check.Tie as tie

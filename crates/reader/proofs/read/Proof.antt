@@ -7,7 +7,7 @@ use Rattle.base.specs.Sizes.{LongEnough}
 use Rattle.base.proofs.Lists.{each-of}
 use Rattle.base.proofs.Sizes.{short-here, short-past}
 use Rattle.book.specs.Lent.{Lent, lent, sizes}
-use Rattle.reader.proofs.Answers.{as-short, as-faulty, as-book}
+use Rattle.reader.proofs.Ways.{as-short, as-faulty, as-book}
 use Rattle.reader.proofs.Filling.{found, refused as fault-found}
 use borrow.Author.Needs.{needs}
 use Rattle.reader.proofs.read.Statement.{statement}

@@ -2,7 +2,7 @@
 use mathlib.Core.Logic.{⊎-elim}
 use native.Mathlib.Omega.{arith}
 use borrow.Author.Tests.{ltb-true, ltb-false}
-use Rattle.ridge.proofs.Answers.{over-state, over-command, found}
+use Rattle.ridge.proofs.Exactly.{over-state, over-command, found}
 use Rattle.ridge.proofs.lookup.Statement.{statement}
 use Rattle.ridge.proofs.lookup.Tie as tie
 

@@ -9,7 +9,7 @@ use Rattle.book.specs.Book.{AllowedDevice}
 use Rattle.book.specs.Lent.{lent}
 use Rattle.book.proofs.Limits.{device-on, no-device}
 use Rattle.writer.specs.Writes.{buffers, refusal, written}
-use Rattle.writer.specs.Checks.{lowestEntry, lowestSlot}
+use Rattle.writer.specs.Lowest.{lowestEntry, lowestSlot}
 use Rattle.writer.proofs.Stores.{cells-below}
 use Rattle.writer.proofs.Chain.{at-short, at-device, at-count, at-entry, at-slot, at-end, counts-fine, each-byte}
 use Rattle.writer.proofs.write.Statement.{statement}

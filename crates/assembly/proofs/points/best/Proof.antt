@@ -4,9 +4,9 @@ use mathlib.Core.Logic.{⊎-elim}
 use Prim.Native.Nat.{ℕ, _+_, _-_, _≤_}
 use native.Mathlib.Omega.{arith}
 use borrow.Author.Needs.{needs}
-use Rattle.reversal.specs.Computed.Least.{Rule}
+use Rattle.reversal.specs.Computed.Least.{Links}
 use Rattle.book.specs.Slots.{itemAt}
-use Rattle.assembly.specs.Rules.{ruleOf, Chosen}
+use Rattle.assembly.specs.Links.{linksOf, Chosen}
 use Rattle.assembly.proofs.BestItem.{fits-room, choice-start, choice-out, choice-kept, choice-taken}
 use Rattle.assembly.proofs.points.best.Statement.{statement}
 use Rattle.assembly.proofs.points.best.Tie as tie
@@ -18,7 +18,7 @@ use Rattle.slots.proofs.k.Reads as k-reads
 use Rattle.slots.proofs.r.Reads as r-reads
 
 abbrev Inv-loop : tie.InvT-loop
-Inv-loop slots count run sets fewest j number₀ item₀ a₀ number item a = Chosen (ruleOf (itemAt slots) run sets count) fewest j a number item × (a ≤ count)
+Inv-loop slots count run sets fewest j number₀ item₀ a₀ number item a = Chosen (linksOf (itemAt slots) run sets count) fewest j a number item × (a ≤ count)
 
 abbrev μ-loop : tie.MeasureT-loop
 μ-loop slots count run sets fewest j number₀ item₀ a₀ number item a = count - a
@@ -30,8 +30,8 @@ start c = c .before .before .before
 abbrev head : tie.After-k Inv-loop μ-loop → tie.At-loop Inv-loop μ-loop
 head c = c .before .before .before .before
 
-abbrev rule : tie.Start Inv-loop μ-loop → Rule
-rule c = ruleOf (itemAt (c .args .slots .now)) (c .args .run .now) (c .args .sets .now) (c .args .count)
+abbrev links : tie.Start Inv-loop μ-loop → Links
+links c = linksOf (itemAt (c .args .slots .now)) (c .args .run .now) (c .args .sets .now) (c .args .count)
 
 -- an item that fits has room
 room : (c : tie.After-k Inv-loop μ-loop) → c .k .result ≤ start (head c) .args .j
@@ -43,7 +43,7 @@ room c =
 loop-holds : tie.Need-loop-holds Inv-loop μ-loop
 loop-holds c =
     let s = c .before .before in
-    (choice-start (rule s) (s .args .fewest .now) (s .args .j), omega arith)
+    (choice-start (links s) (s .args .fewest .now) (s .args .j), omega arith)
 
 fits-at-requires : tie.Need-fits-at-requires Inv-loop μ-loop
 fits-at-requires c κs = omega arith
@@ -81,7 +81,7 @@ loop-again c =
     let s = start l in
     let g = l .loop .inv .0 in
     let fits = sym (c .before .fits-at .ensures) in
-    let Next : ℕ → ℕ → Type 0 = λ (x y : ℕ). Chosen (rule s) (s .args .fewest .now) (s .args .j) (l .loop .a + 1) x y in (
+    let Next : ℕ → ℕ → Type 0 = λ (x y : ℕ). Chosen (links s) (s .args .fewest .now) (s .args .j) (l .loop .a + 1) x y in (
       ⊎-elim
           (λ w.
           subst₂ Next (sym (w .6)) (sym (w .7))
@@ -99,7 +99,7 @@ returns c =
     let l = c .before in
     let s = start l in
     let done : l .loop .a ≡ s .args .count = omega (arith, l .loop .inv .1) in
-    subst (λ (x : ℕ). Chosen (rule s) (s .args .fewest .now) (s .args .j) x (l .loop .number) (l .loop .item)) done (l .loop .inv .0)
+    subst (λ (x : ℕ). Chosen (links s) (s .args .fewest .now) (s .args .j) x (l .loop .number) (l .loop .item)) done (l .loop .inv .0)
 
 pub best-spec : {M : Type 1} → statement M
 best-spec =

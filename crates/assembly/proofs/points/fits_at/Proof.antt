@@ -11,7 +11,7 @@ use Rattle.states.specs.declared.StateSet.{StateSet}
 use Rattle.runs.specs.Computed.{commandOf}
 use Rattle.book.specs.Slots.{itemAt}
 use Rattle.assembly.specs.Items.{kOf}
-use Rattle.assembly.specs.Rules.{sameAt}
+use Rattle.assembly.specs.Links.{sameAt}
 use Rattle.assembly.proofs.FitTests.{fits-short, same-start, same-next, same-fails, upper-fails, lower-decides}
 use Rattle.assembly.proofs.points.fits_at.Statement.{statement}
 use Rattle.assembly.proofs.points.fits_at.Tie as tie

@@ -2,9 +2,9 @@
 use mathlib.Core.Path.{_≡_, subst}
 use Prim.Native.Nat.{ℕ, _-_, _≤_}
 use native.Mathlib.Omega.{arith}
-use Rattle.reversal.specs.Computed.Least.{Rule}
+use Rattle.reversal.specs.Computed.Least.{Links}
 use Rattle.book.specs.Slots.{itemAt}
-use Rattle.assembly.specs.Rules.{ruleOf, Numbered}
+use Rattle.assembly.specs.Links.{linksOf, Numbered}
 use Rattle.assembly.proofs.Numbers.{numbered-start, numbered-next}
 use Rattle.assembly.proofs.points.points_of.Statement.{statement}
 use Rattle.assembly.proofs.points.points_of.Tie as tie
@@ -13,7 +13,7 @@ use Rattle.assembly.proofs.points.points_of.Lts as lts
 use Rattle.assembly.proofs.points.best.Reads as best-reads
 
 abbrev Inv-loop : tie.InvT-loop
-Inv-loop slots count run sets i fewest₀ items₀ j₀ fewest items j = Numbered (ruleOf (itemAt slots) run sets count) j fewest items × (j ≤ i)
+Inv-loop slots count run sets i fewest₀ items₀ j₀ fewest items j = Numbered (linksOf (itemAt slots) run sets count) j fewest items × (j ≤ i)
 
 abbrev μ-loop : tie.MeasureT-loop
 μ-loop slots count run sets i fewest₀ items₀ j₀ fewest items j = i - j
@@ -28,14 +28,14 @@ chosen c = c .before
 abbrev head : tie.After-best Inv-loop μ-loop → tie.At-loop Inv-loop μ-loop
 head c = c .before .before .before
 
-abbrev rule : tie.Start Inv-loop μ-loop → Rule
-rule c = ruleOf (itemAt (c .args .slots .now)) (c .args .run .now) (c .args .sets .now) (c .args .count)
+abbrev links : tie.Start Inv-loop μ-loop → Links
+links c = linksOf (itemAt (c .args .slots .now)) (c .args .run .now) (c .args .sets .now) (c .args .count)
 
 array-write-fewest : tie.Need-array-write-fewest Inv-loop μ-loop
 array-write-fewest c = omega arith
 
 loop-holds : tie.Need-loop-holds Inv-loop μ-loop
-loop-holds c = (numbered-start (rule (c .before .before)) (c .before .before .pre .2), omega arith)
+loop-holds c = (numbered-start (links (c .before .before)) (c .before .before .pre .2), omega arith)
 
 add-best : tie.Need-add-best Inv-loop μ-loop
 add-best c = omega arith
@@ -75,14 +75,14 @@ loop-again c =
     let t = chosen c in
     let l = head t .loop in
     let s = start (head t) in
-    (numbered-next (rule s) (s .pre .2) (l .j) (l .fewest) (l .items) _ _ (omega arith) (l .inv .0) (t .best .ensures), omega arith)
+    (numbered-next (links s) (s .pre .2) (l .j) (l .fewest) (l .items) _ _ (omega arith) (l .inv .0) (t .best .ensures), omega arith)
 
 returns : tie.Need-returns Inv-loop μ-loop
 returns c =
     let l = c .before .loop in
     let s = start (c .before) in
     let done : l .j ≡ s .args .i = omega (arith, l .inv .1) in
-    subst (λ (x : ℕ). Numbered (rule s) x (l .fewest) (l .items)) done (l .inv .0)
+    subst (λ (x : ℕ). Numbered (links s) x (l .fewest) (l .items)) done (l .inv .0)
 
 pub points-of-spec : {M : Type 1} → statement M
 points-of-spec =

@@ -6,7 +6,7 @@ use native.Mathlib.Nat.{sub-zero}
 use borrow.Author.Needs.{needs}
 use Rattle.base.specs.Masks.{clearFrom}
 use Rattle.base.specs.Bounded.{seek}
-use Rattle.writer.specs.Checks.{entryWrong, lowestEntry}
+use Rattle.writer.specs.Lowest.{entryWrong, lowestEntry}
 use Rattle.writer.proofs.Scans.{seek-again, seek-stop, seek-finish, turned-on, turned-off}
 use Rattle.writer.proofs.checks.lowest_entry.Statement.{statement}
 use Rattle.writer.proofs.checks.lowest_entry.Tie as tie

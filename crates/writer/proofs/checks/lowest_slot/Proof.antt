@@ -5,7 +5,7 @@ use Prim.Native.Nat.{_-_, _≤_}
 use native.Mathlib.Nat.{sub-zero}
 use borrow.Author.Needs.{needs}
 use Rattle.base.specs.Bounded.{seek}
-use Rattle.writer.specs.Checks.{slotWrong, lowestSlot}
+use Rattle.writer.specs.Lowest.{slotWrong, lowestSlot}
 use Rattle.writer.proofs.Scans.{seek-again, seek-stop, seek-finish, turned-on, turned-off}
 use Rattle.writer.proofs.checks.lowest_slot.Statement.{statement}
 use Rattle.writer.proofs.checks.lowest_slot.Tie as tie

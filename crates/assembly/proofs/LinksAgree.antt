@@ -8,17 +8,17 @@ use lib.ListN.{getD, replicate}
 use Rattle.base.specs.Tests.{both}
 use Rattle.base.specs.Bounded.{least, seek}
 use Rattle.base.proofs.Bounded.{least-same, seek-same}
-use Rattle.reversal.specs.Computed.Least.{Rule, via, leasts, leastAt, begins}
-use Rattle.assembly.specs.Rules.{Numbered}
+use Rattle.reversal.specs.Computed.Least.{Links, via, leasts, leastAt, begins}
+use Rattle.assembly.specs.Links.{Numbered}
 
-pub record Agree (i : ℕ) (R Q : Rule) : Type 0 where
+pub record Agree (i : ℕ) (R Q : Links) : Type 0 where
   pub count-same : R .count ≡ Q .count
   pub top-same : R .top ≡ Q .top
   pub k-same : (a : ℕ) → a < Q .count → R .k a ≡ Q .k a
   pub price-same : (a : ℕ) → a < Q .count → R .price a ≡ Q .price a
   pub fit-same : (a j : ℕ) → a < Q .count → j ≤ i → R .fit a j ≡ Q .fit a j
 
-module _ {i : ℕ} {R Q : Rule} (g : Agree i R Q) where
+module _ {i : ℕ} {R Q : Links} (g : Agree i R Q) where
   via-same : (ns : List ℕ) (j a : ℕ) → j ≤ i → a < Q .count → via R ns j a ≡ via Q ns j a
   unfolding via
   via-same ns j a b l = rw (g .fit-same a j l b, g .price-same a l, g .k-same a l, g .top-same)

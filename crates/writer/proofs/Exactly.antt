@@ -24,7 +24,7 @@ use Rattle.book.proofs.Largest.{length-book}
 use Rattle.book.proofs.Slots.{slot-allowed↔}
 use Rattle.book.proofs.RoundTrip.{written-allowed, written-holds, held-book, held-writable}
 use Rattle.writer.specs.declared.Writing.{Writing}
-use Rattle.writer.specs.Checks.{lowestEntry, lowestSlot}
+use Rattle.writer.specs.Lowest.{lowestEntry, lowestSlot}
 use Rattle.writer.specs.Contract.{checked, bookBytes, WriteAs}
 use Rattle.writer.specs.Writes.{buffers, EntryRight, SlotRight, Refuses, refusal, written, BookWritten, Writes}
 use Rattle.writer.specs.Writes.Refuses.{short, device, count, entry, slot}

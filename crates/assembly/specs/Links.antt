@@ -1,5 +1,5 @@
 -- Which item fits where, and the choice at a point, of the items by number, the run's bytes and the belief states as the code has them. proofs/ItemsFit
--- ties them to reversal's rule. Assumes nothing: these are definitions.
+-- ties them to reversal's links. Assumes nothing: these are definitions.
 use mathlib.Core.Path.{_≡_}
 use mathlib.Core.Bool.{Bool}
 use mathlib.Core.List.{List, _++_}
@@ -10,7 +10,7 @@ use Rattle.base.specs.Tests.{both}
 use Rattle.base.specs.Bounded.{all, least, seek}
 use Rattle.base.specs.Masks.{inside}
 use Rattle.reversal.specs.Chains.{none}
-use Rattle.reversal.specs.Computed.Least.{Rule, via, leasts, leastAt, begins}
+use Rattle.reversal.specs.Computed.Least.{Links, via, leasts, leastAt, begins}
 use Rattle.runs.specs.Computed.{commandOf}
 use Rattle.assembly.specs.Items.{Items, kOf}
 
@@ -23,12 +23,12 @@ fitsAt F s sets a j =
     both (leb (kOf F a) j)
     (both (sameAt F s a j (kOf F a)) (both (inside (getD sets j 0) (F a .phi)) (inside (getD sets (j - kOf F a) 0) (F a .psi))))
 
--- the rule by the numbers of reverse commands
-abbrev pub ruleOf : Items → List ℕ → List ℕ → ℕ → Rule
-ruleOf F s sets count = record { count = count; k = kOf F; price = λ a. length (F a .reverse); fit = fitsAt F s sets; top = none }
+-- the links by the numbers of reverse commands
+abbrev pub linksOf : Items → List ℕ → List ℕ → ℕ → Links
+linksOf F s sets count = record { count = count; k = kOf F; price = λ a. length (F a .reverse); fit = fitsAt F s sets; top = none }
 
 -- of the first count items: the least number by way of one of them, and the lowest that has it
-pub record Chosen (R : Rule) (ns : List ℕ) (j count number item : ℕ) : Type 0 where
+pub record Chosen (R : Links) (ns : List ℕ) (j count number item : ℕ) : Type 0 where
   pub least-is : number ≡ least (R .top) (via R ns j) count
   pub most : number ≤ R .top
   pub within : item ≤ count
@@ -40,8 +40,8 @@ pub record Chosen (R : Rule) (ns : List ℕ) (j count number item : ℕ) : Type 
 abbrev pub Moving : Items → ℕ → Type 0
 Moving F count = (a : ℕ) → a < count → 1 ≤ kOf F a
 
--- the numbers of the points 0 to j, the rule's top above, and for each point that has one the lowest item that begins a chain with so few
-pub record Numbered (R : Rule) (j : ℕ) (numbers items : List ℕ) : Type 0 where
+-- the numbers of the points 0 to j, the links' top above, and for each point that has one the lowest item that begins a chain with so few
+pub record Numbered (R : Links) (j : ℕ) (numbers items : List ℕ) : Type 0 where
   pub low : j ≤ 32
   pub fewest : numbers ≡ leasts R j ++ replicate (32 - j) (R .top)
   pub size : length items ≡ 33

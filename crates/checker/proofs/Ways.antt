@@ -10,7 +10,7 @@ use Rattle.book.proofs.Device.{tabled-device}
 use Rattle.reader.specs.declared.Reading.{Reading}
 use Rattle.reader.specs.Reads.{refusal, done}
 use Rattle.reader.specs.Contract.{ReadAs}
-use Rattle.reader.proofs.Answers.{when-fine}
+use Rattle.reader.proofs.Ways.{when-fine}
 use Rattle.reader.proofs.Exactly.{BookRead, book-read, not-read}
 use Rattle.checker.specs.declared.Judgement.{Judgement}
 use Rattle.checker.specs.Contract.{Judged, onJudgement, judgedBy, checkBy, CheckAs}

@@ -1,9 +1,9 @@
 -- A slot read and stored part by part. Assumes nothing.
 use mathlib.Core.Path.{_≡_, refl, sym, ap, _∙_}
-use mathlib.Core.List.{List, [], _∷_, _++_, append-assoc}
+use mathlib.Core.List.{List, [], _∷_, _++_}
 use Prim.Native.Nat.{ℕ, zero, suc, _+_, _-_, _*_, _/_, _%_, _≤_, _<_}
 use native.Mathlib.Omega.{arith}
-use lib.ListN.{length, getD, replicate, length-append}
+use lib.ListN.{length, getD, replicate}
 use lib.Seq.{sets}
 use Rattle.reversal.specs.Reversal.{Item}
 use Rattle.octets.specs.Le.{bytesLe}
@@ -15,7 +15,7 @@ use Rattle.book.proofs.Slots.{length-padded}
 use Rattle.items.specs.declared.Parts.{Parts}
 use Rattle.items.specs.Items.{PartsOf, PartsAt}
 use Rattle.items.proofs.Laws.{allowed}
-use Rattle.slots.specs.Filled.{slotFrom, SlotFilled}
+use Rattle.slots.specs.Filled.{headFrom, tailFrom, SlotFilled}
 
 -- ---- the fields of the item in slot a
 module _ (s : List ℕ) (a : ℕ) where
@@ -48,7 +48,7 @@ unfolding bytesLe
 bytes-zero zero = refl
 bytes-zero (suc n) = ap (λ (t : List ℕ). 0 ∷ t) (bytes-zero n)
 
-pub commands-put : (n : ℕ) (s : List ℕ) (p q : ℕ) (d₀ d₁ d₂ : List ℕ) → d₁ ≡ sets d₀ q (piece n s p) → d₂ ≡ sets d₁ (q + n) (bytesLe (8 - n) 0)
+commands-put : (n : ℕ) (s : List ℕ) (p q : ℕ) (d₀ d₁ d₂ : List ℕ) → d₁ ≡ sets d₀ q (piece n s p) → d₂ ≡ sets d₁ (q + n) (bytesLe (8 - n) 0)
     → d₂ ≡ sets d₀ q (padded (piece n s p))
 commands-put n s p q d₀ d₁ d₂ e f =
     let row = piece n s p in
@@ -64,26 +64,20 @@ counts-put k r h l =
     let g : r % 256 ≡ r = omega arith in
     rw (e, f, g)
 
-pub item-put : (s : List ℕ) (p : Parts) (q : ℕ) (d₀ d₁ d₂ d₃ d₄ : List ℕ) → p .k ≤ 8 → p .r ≤ 8 → d₁ ≡ sets d₀ q (bytesLe 2 (p .k + 256 * p .r))
-    → d₂ ≡ sets d₁ (q + 2) (padded (piece (p .k) s (p .forward))) → d₃ ≡ sets d₂ (q + 10) (padded (piece (p .r) s (p .reverse)))
-    → d₄ ≡ sets d₃ (q + 18) (piece 16 s (p .masks)) → d₄ ≡ sets d₀ q (slotFrom s p)
-unfolding slotFrom
-item-put s p q d₀ d₁ d₂ d₃ d₄ h g e₁ e₂ e₃ e₄ =
-    let F = padded (piece (p .k) s (p .forward)) in
-    let R = padded (piece (p .r) s (p .reverse)) in
-    let C = p .k ∷ p .r ∷ [] in
-    let lf : length F ≡ 8 = length-padded (piece (p .k) s (p .forward)) (omega (arith, length-piece (p .k) s (p .forward))) in
-    let lr : length R ≡ 8 = length-padded (piece (p .r) s (p .reverse)) (omega (arith, length-piece (p .r) s (p .reverse))) in
-    then (then (then (first d₀ q C (e₁ ∙ ap (sets d₀ q) (counts-put (p .k) (p .r) h g)))
-    (q + 2) F refl e₂)
-    (q + 10) R (omega (arith, length-append C F)) e₃)
-    (q + 18) (piece 16 s (p .masks)) (omega (arith, length-append C F, length-append (C ++ F) R)) e₄ .is
-    ∙ ap (sets d₀ q) (append-assoc (C ++ F) R (piece 16 s (p .masks)) ∙ append-assoc C F (R ++ piece 16 s (p .masks)))
+module _ (s : List ℕ) (k r p q : ℕ) (d₀ d₁ d₂ d₃ : List ℕ) where
+  pub head-put : k ≤ 8 → r ≤ 8 → d₁ ≡ sets d₀ q (bytesLe 2 (k + 256 * r)) → d₂ ≡ sets d₁ (q + 2) (piece k s p)
+      → d₃ ≡ sets d₂ (q + 2 + k) (bytesLe (8 - k) 0) → d₃ ≡ sets d₀ q (headFrom s k r p)
+  unfolding headFrom
+  head-put h g e₁ e₂ e₃ =
+      then (first d₀ q (k ∷ r ∷ []) (e₁ ∙ ap (sets d₀ q) (counts-put k r h g)))
+      (q + 2) (padded (piece k s p)) refl (commands-put k s p (q + 2) d₁ d₂ d₃ e₂ e₃) .is
 
--- it is the slot of the item whose parts stand there
-slot-from : (s : List ℕ) (p : Parts) (x : Item) → PartsOf s p x → slotFrom s p ≡ slotOf x
-unfolding slotFrom
-slot-from s p x f = rw (f .forward-is, f .reverse-is, f .masks-are, f .k-is, f .r-is)
+  pub tail-put : (masks : ℕ) → r ≤ 8 → d₁ ≡ sets d₀ q (piece r s p) → d₂ ≡ sets d₁ (q + r) (bytesLe (8 - r) 0)
+      → d₃ ≡ sets d₂ (q + 8) (piece 16 s masks) → d₃ ≡ sets d₀ q (tailFrom s r p masks)
+  unfolding tailFrom
+  tail-put masks h e₁ e₂ e₃ =
+      let l : length (padded (piece r s p)) ≡ 8 = length-padded (piece r s p) (omega (arith, length-piece r s p)) in
+      then (first d₀ q (padded (piece r s p)) (commands-put r s p q d₀ d₁ d₂ e₁ e₂)) (q + 8) (piece 16 s masks) (omega arith) e₃ .is
 
 -- ---- the contract of `fill`
 module _ {s : List ℕ} {at : ℕ} {p : Parts} (o : PartsAt s at p) (slots : List ℕ) (a : ℕ) where
@@ -99,5 +93,18 @@ module _ {s : List ℕ} {at : ℕ} {p : Parts} (o : PartsAt s at p) (slots : Lis
         next = o .next;
       }
 
-  pub item-filled : (slots′ : List ℕ) → slots′ ≡ sets slots (34 * a) (slotFrom s p) → SlotFilled s at slots a slots′ (p .next)
-  item-filled slots′ e = record { past = o .past; slot = λ h. e ∙ ap (sets slots (34 * a)) (slot-from s p _ (o .parts h)); next = o .next }
+  -- its slot is that of the item whose parts stand there
+  module _ (d slots′ : List ℕ) (low : p .k ≤ 8) (e : d ≡ sets slots (34 * a) (headFrom s (p .k) (p .r) (p .forward)))
+      (f : slots′ ≡ sets d (34 * a + 10) (tailFrom s (p .r) (p .reverse) (p .masks))) where
+    stored : slots′ ≡ sets slots (34 * a) (headFrom s (p .k) (p .r) (p .forward) ++ tailFrom s (p .r) (p .reverse) (p .masks))
+    unfolding headFrom
+    stored =
+        let l = length-padded (piece (p .k) s (p .forward)) (omega (arith, length-piece (p .k) s (p .forward))) in
+        then (first slots (34 * a) (headFrom s (p .k) (p .r) (p .forward)) e) (34 * a + 10) _ (omega arith) f .is
+
+    slot-from : (x : Item) → PartsOf s p x → headFrom s (p .k) (p .r) (p .forward) ++ tailFrom s (p .r) (p .reverse) (p .masks) ≡ slotOf x
+    unfolding headFrom tailFrom
+    slot-from x f = rw (f .forward-is, f .reverse-is, f .masks-are, f .k-is, f .r-is)
+
+    pub item-filled : SlotFilled s at slots a slots′ (p .next)
+    item-filled = record { past = o .past; slot = λ h. stored ∙ ap (sets slots (34 * a)) (slot-from _ (o .parts h)); next = o .next }

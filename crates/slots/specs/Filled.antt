@@ -8,13 +8,14 @@ use Rattle.reversal.specs.Chains.{item}
 use Rattle.book.specs.Book.{Book}
 use Rattle.octets.specs.Parts.{piece}
 use Rattle.book.specs.Lent.{padded, slotOf}
-use Rattle.items.specs.declared.Parts.{Parts}
 use Rattle.items.specs.Items.{Begins, ItemStands}
 
--- the slot of an item whose parts stand in s
-unfoldable pub slotFrom : List ℕ → Parts → List ℕ
-slotFrom s p =
-    p .k ∷ p .r ∷ (padded (piece (p .k) s (p .forward)) ++ (padded (piece (p .r) s (p .reverse)) ++ piece 16 s (p .masks)))
+-- the slot of an item whose parts stand in s: counts k and r and the forward commands at p, then the reverse commands at p and the masks
+unfoldable pub headFrom : List ℕ → ℕ → ℕ → ℕ → List ℕ
+headFrom s k r p = k ∷ r ∷ padded (piece k s p)
+
+unfoldable pub tailFrom : List ℕ → ℕ → ℕ → ℕ → List ℕ
+tailFrom s r p masks = padded (piece r s p) ++ piece 16 s masks
 
 -- the contract of `fill`: bytes s with a record at `at`, the slots before and after, and the place of the next record
 pub record SlotFilled (s : List ℕ) (at : ℕ) (slots : List ℕ) (a : ℕ) (slots′ : List ℕ) (r : ℕ) : Type 0 where

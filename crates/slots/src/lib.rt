@@ -1,14 +1,11 @@
 // The items in lent slots: 34 bytes each, with k, r, eight forward and eight reverse commands, phi and psi. This module alone knows their places
 // there. Every call takes any bytes and any slot's number; past the end there are zeros, and nothing is stored.
-use items::Parts;
 ghost use mathlib.Core.Path.{_≡_};
 ghost use Prim.Native.Nat.{_≤_, _<_};
 ghost use lib.ListN.{length, getD};
 ghost use lib.Seq.{sets};
-ghost use Rattle.octets.specs.Parts.{piece};
-ghost use Rattle.book.specs.Lent.{padded};
 ghost use Rattle.book.specs.Slots.{itemAt, slotFine};
-ghost use Rattle.slots.specs.Filled.{slotFrom, SlotFilled};
+ghost use Rattle.slots.specs.Filled.{headFrom, tailFrom, SlotFilled};
 
 // The number of forward commands of the item in slot a.
 pub fn k(slots: &[u8], a: u8) -> u64
@@ -85,24 +82,24 @@ pub fn fine(slots: &[u8], a: u8, n: u64, m: u64) -> bool
     limits::all_below(&slots[b..q + 18], 1)
 }
 
-// Stores n of at most eight commands of the book, from p on, and zeros up to eight.
-fn put_commands(n: usize, book: &[u8], p: usize, slots: &mut [u8], q: usize)
-    requires { ⌜ (n ≤ 8) × (q < 10000) ⌝ }
-    ensures { λ _. ⌜ now (slots .exit) ≡ sets (now (slots .entry)) q (padded (piece n (now (book .entry)) p)) ⌝ }
+// Stores the counts of an item, from q on, and its forward commands, which stand at p of the book, with zeros behind them.
+fn put_head(book: &[u8], k: usize, r: usize, p: usize, slots: &mut [u8], q: usize)
+    requires { ⌜ (k ≤ 8) × (r ≤ 8) × (q < 9000) ⌝ }
+    ensures { λ _. ⌜ now (slots .exit) ≡ sets (now (slots .entry)) q (headFrom (now (book .entry)) k r p) ⌝ }
 {
-    octets::copy(n, book, p, slots, q);
-    octets::put_le(8 - n, 0, slots, q + n);
+    octets::put_le(2, (k + 256 * r) as u64, slots, q);
+    octets::copy(k, book, p, slots, q + 2);
+    octets::put_le(8 - k, 0, slots, q + 2 + k);
 }
 
-// Stores the slot of an item whose parts are known, from q on.
-fn put_item(book: &[u8], item: Parts, slots: &mut [u8], q: usize)
-    requires { ⌜ (item .k ≤ 8) × (item .r ≤ 8) × (q < 9000) ⌝ }
-    ensures { λ _. ⌜ now (slots .exit) ≡ sets (now (slots .entry)) q (slotFrom (now (book .entry)) item) ⌝ }
+// Stores its reverse commands, which stand at p, and its masks.
+fn put_tail(book: &[u8], r: usize, p: usize, masks: usize, slots: &mut [u8], q: usize)
+    requires { ⌜ (r ≤ 8) × (q < 10000) ⌝ }
+    ensures { λ _. ⌜ now (slots .exit) ≡ sets (now (slots .entry)) q (tailFrom (now (book .entry)) r p masks) ⌝ }
 {
-    octets::put_le(2, (item.k + 256 * item.r) as u64, slots, q);
-    put_commands(item.k, book, item.forward, slots, q + 2);
-    put_commands(item.r, book, item.reverse, slots, q + 10);
-    octets::copy(16, book, item.masks, slots, q + 18);
+    octets::copy(r, book, p, slots, q);
+    octets::put_le(8 - r, 0, slots, q + r);
+    octets::copy(16, book, masks, slots, q + 8);
 }
 
 // Fills slot a from the item whose record begins at a place of a book; gives the place of the next one. Where no item stands nothing is stored, or
@@ -117,6 +114,8 @@ pub fn fill(book: &[u8], at: usize, slots: &mut [u8], a: u8) -> usize
     if 8 < item.r {
         return item.next;
     }
-    put_item(book, item, slots, 34 * a as usize);
+    let q = 34 * a as usize;
+    put_head(book, item.k, item.r, item.forward, slots, q);
+    put_tail(book, item.r, item.reverse, item.masks, slots, q + 10);
     item.next
 }

@@ -7,7 +7,8 @@ use Rattle.slots.proofs.fill.Tie as tie
 use Rattle.slots.proofs.fill.Reads as reads
 use Rattle.slots.proofs.fill.Lts as lts
 use Rattle.items.proofs.parts_at.Reads as parts-at-reads
-use Rattle.slots.proofs.put_item.Reads as put-item-reads
+use Rattle.slots.proofs.put_head.Reads as put-head-reads
+use Rattle.slots.proofs.put_tail.Reads as put-tail-reads
 
 parts-at-requires : tie.Need-parts-at-requires
 parts-at-requires c κs = search needs
@@ -18,17 +19,27 @@ returns c = none-filled (c .before .before .parts-at .ensures) _ _ (λ h l. omeg
 returns-2 : tie.Need-returns-2
 returns-2 c = none-filled (c .before .before .before .before .parts-at .ensures) _ _ (λ h l. omega arith)
 
-mul-put-item : tie.Need-mul-put-item
-mul-put-item c = search needs
+mul-q : tie.Need-mul-q
+mul-q c = search needs
 
-put-item-requires : tie.Need-put-item-requires
-put-item-requires c κs = search needs
+put-head-requires : tie.Need-put-head-requires
+put-head-requires c κs = search needs
+
+add-put-tail : tie.Need-add-put-tail
+add-put-tail c = search needs
+
+put-tail-requires : tie.Need-put-tail-requires
+put-tail-requires c κs = search needs
 
 same-length : tie.Need-same-length
 same-length c = search needs
 
 returns-3 : tie.Need-returns-3
-returns-3 c = item-filled (c .before .before .before .before .before .before .before .before .parts-at .ensures) _ _ _ (c .before .before .put-item .ensures)
+returns-3 c =
+    let tail = c .before .before in
+    let head = tail .before .before .before .before in
+    let read = head .before .before .before .before .before .before in
+    item-filled (read .parts-at .ensures) _ _ _ _ (omega arith) (head .put-head .ensures) (tail .put-tail .ensures)
 
 pub fill-spec : {M : Type 1} → statement M
 fill-spec =
@@ -37,7 +48,9 @@ fill-spec =
     parts-at-requires
     returns
     returns-2
-    mul-put-item
-    put-item-requires
+    mul-q
+    put-head-requires
+    add-put-tail
+    put-tail-requires
     same-length
     returns-3)

@@ -46,7 +46,8 @@ abbrev pub Write : Type 1
 Write = ℕ → ℕ → ℕ → Lent → List ℕ → Writing → List ℕ → Type 0
 
 abbrev pub onWrite : Write → After write.ended
-onWrite P κs (n, (m, (items, (table, (slots, (out, _)))))) r (_, (_, (_, (_, (_, (out′, _)))))) = P n m items (lent (now table) (now slots)) (now out) r (now out′)
+onWrite P κs (n, (m, (items, (table, (slots, (out, _)))))) r (_, (_, (_, (_, (_, (out′, _)))))) =
+    P n m items (lent (now table) (now slots)) (now out) r (now out′)
 
 abbrev pub Assemble : Type 0 → Type 1
 Assemble E = List ℕ → List ℕ → AllLent E → Assembly → AllLent E → Type 0

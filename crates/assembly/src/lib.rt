@@ -12,6 +12,11 @@ ghost use Rattle.assembly.specs.Lent.{inBytes, allLent};
 ghost use Rattle.assembly.specs.Assembles.{refusal};
 ghost use Rattle.assembly.specs.Contract.{AssembleAs};
 
+// The bytes of a lent plan, and of lent legs.
+pub const PLAN_LEN: usize = 256;
+
+pub const LEGS_LEN: usize = 96;
+
 // What assembling answers: the code and its place; the numbers of commands and legs, each 0 on a refusal; the fewest commands for each of the 33
 // points, 65,535 where there is no chain.
 #[repr(C)]
@@ -49,10 +54,10 @@ pub fn assemble(
         (allLent (lent (now (table .entry)) (now (slots .entry))) (now (plan .entry)) (now (legs .entry))) r
         (allLent (lent (now (table .exit)) (now (slots .exit))) (now (plan .exit)) (now (legs .exit))) ⌝ }
 {
-    if plan.len() < 256 {
+    if plan.len() < PLAN_LEN {
         return refused(1, 0);
     }
-    if legs.len() < 96 {
+    if legs.len() < LEGS_LEN {
         return refused(1, 0);
     }
     let found = checker::check(book, table, slots);

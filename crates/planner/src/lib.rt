@@ -82,7 +82,7 @@ pub struct Leg {
 // An answer with its legs as bytes, and the number of legs to write.
 struct Whole {
     result: Assembly,
-    bytes: [u8; 96],
+    bytes: [u8; assembly::LEGS_LEN],
     count: usize,
 }
 
@@ -99,7 +99,7 @@ fn assemble_whole(
         (lent (now (table .entry)) (now (slots .entry))) (now (plan .entry)) room r
         (lent (now (table .exit)) (now (slots .exit))) (now (plan .exit)) ⌝ }
 {
-    let mut bytes = [0u8; 96];
+    let mut bytes = [0u8; assembly::LEGS_LEN];
     if room < 32 {
         return Whole {
             result: assembly::refused(1, 0),
@@ -116,7 +116,7 @@ fn assemble_whole(
 }
 
 // The leg of the three bytes from 3 * i on.
-fn leg_of(s: [u8; 96], i: usize) -> Leg
+fn leg_of(s: [u8; assembly::LEGS_LEN], i: usize) -> Leg
     requires { ⌜ i < 32 ⌝ }
     ensures { λ r. ⌜ r ≡ legAt s i ⌝ }
 {

@@ -101,10 +101,10 @@ pub fn read(book: &[u8], table: &mut [u64], slots: &mut [u8]) -> Reading
     ensures { λ r. ⌜ ReadAs (now (book .entry)) (lent (now (table .entry)) (now (slots .entry))) r
         (lent (now (table .exit)) (now (slots .exit))) ⌝ }
 {
-    if table.len() < 2048 {
+    if table.len() < book::TABLE_LEN {
         return refused(1, 0);
     }
-    if slots.len() < 2176 {
+    if slots.len() < book::SLOTS_LEN {
         return refused(1, 0);
     }
     let seen = judge(book);

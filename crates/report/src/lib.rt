@@ -22,10 +22,10 @@ pub fn report(book: &[u8], run: &[u8], out: &mut [u8]) -> usize
 {
     let book_size = at_most(31111, book);
     let run_size = at_most(302, run);
-    let mut table = [0u64; 2048];
-    let mut slots = [0u8; 2176];
-    let mut plan = [0u8; 256];
-    let mut legs = [0u8; 96];
+    let mut table = [0u64; book::TABLE_LEN];
+    let mut slots = [0u8; book::SLOTS_LEN];
+    let mut plan = [0u8; assembly::PLAN_LEN];
+    let mut legs = [0u8; assembly::LEGS_LEN];
     let r = assembly::assemble(
         &book[..book_size],
         &run[..run_size],

@@ -7,37 +7,40 @@ ghost use lib.Seq.{sets};
 ghost use Rattle.book.specs.Slots.{itemAt, slotFine};
 ghost use Rattle.slots.specs.Filled.{headFrom, tailFrom, SlotFilled};
 
+// The bytes of a slot.
+const SLOT_LEN: usize = 34;
+
 // The number of forward commands of the item in slot a.
 pub fn k(slots: &[u8], a: u8) -> u64
     ensures { λ r. ⌜ (r ≡ length (itemAt (now (slots .entry)) a .forward)) × (r < 256) ⌝ }
 {
-    octets::byte_at(slots, 34 * a as usize)
+    octets::byte_at(slots, SLOT_LEN * a as usize)
 }
 
 // The number of its reverse commands.
 pub fn r(slots: &[u8], a: u8) -> u64
     ensures { λ r. ⌜ (r ≡ length (itemAt (now (slots .entry)) a .reverse)) × (r < 256) ⌝ }
 {
-    octets::byte_at(slots, 34 * a as usize + 1)
+    octets::byte_at(slots, SLOT_LEN * a as usize + 1)
 }
 
 // Its forward command x, where it has one.
 pub fn forward(slots: &[u8], a: u8, x: u8) -> u64
     ensures { λ r. ⌜ (x < length (itemAt (now (slots .entry)) a .forward) → r ≡ getD (itemAt (now (slots .entry)) a .forward) x 0) ⌝ }
 {
-    octets::byte_at(slots, 34 * a as usize + 2 + x as usize)
+    octets::byte_at(slots, SLOT_LEN * a as usize + 2 + x as usize)
 }
 
 pub fn phi(slots: &[u8], a: u8) -> u64
     ensures { λ r. ⌜ r ≡ itemAt (now (slots .entry)) a .phi ⌝ }
 {
-    octets::u64_at(slots, 34 * a as usize + 18)
+    octets::u64_at(slots, SLOT_LEN * a as usize + 18)
 }
 
 pub fn psi(slots: &[u8], a: u8) -> u64
     ensures { λ r. ⌜ r ≡ itemAt (now (slots .entry)) a .psi ⌝ }
 {
-    octets::u64_at(slots, 34 * a as usize + 26)
+    octets::u64_at(slots, SLOT_LEN * a as usize + 26)
 }
 
 // Stores its forward commands in d, from `at` on, for who knows their number.
@@ -45,7 +48,7 @@ pub fn put_forward(slots: &[u8], a: u8, count: usize, d: &mut [u8], at: usize)
     ensures { λ _. ⌜ (count ≡ length (itemAt (now (slots .entry)) a .forward)
         → now (d .exit) ≡ sets (now (d .entry)) at (itemAt (now (slots .entry)) a .forward)) ⌝ }
 {
-    octets::copy(count, slots, 34 * a as usize + 2, d, at);
+    octets::copy(count, slots, SLOT_LEN * a as usize + 2, d, at);
 }
 
 // Stores its reverse commands.
@@ -53,15 +56,15 @@ pub fn put_reverse(slots: &[u8], a: u8, count: usize, d: &mut [u8], at: usize)
     ensures { λ _. ⌜ (count ≡ length (itemAt (now (slots .entry)) a .reverse)
         → now (d .exit) ≡ sets (now (d .entry)) at (itemAt (now (slots .entry)) a .reverse)) ⌝ }
 {
-    octets::copy(count, slots, 34 * a as usize + 10, d, at);
+    octets::copy(count, slots, SLOT_LEN * a as usize + 10, d, at);
 }
 
 // Whether slot a keeps an item's limits, for n states and m commands, and has zeros in its unused command bytes.
 pub fn fine(slots: &[u8], a: u8, n: u64, m: u64) -> bool
     ensures { λ x. ⌜ x ≡ slotFine n m (now (slots .entry)) a ⌝ }
 {
-    let q = 34 * a as usize;
-    if slots.len() < q + 34 {
+    let q = SLOT_LEN * a as usize;
+    if slots.len() < q + SLOT_LEN {
         return false;
     }
     let k = octets::byte_at(slots, q);
@@ -114,7 +117,7 @@ pub fn fill(book: &[u8], at: usize, slots: &mut [u8], a: u8) -> usize
     if 8 < item.r {
         return item.next;
     }
-    let q = 34 * a as usize;
+    let q = SLOT_LEN * a as usize;
     put_head(book, item.k, item.r, item.forward, slots, q);
     put_tail(book, item.r, item.reverse, item.masks, slots, q + 10);
     item.next

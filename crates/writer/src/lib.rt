@@ -33,13 +33,13 @@ fn refused(code: u64, place: u64) -> Writing
 pub fn write(n: u64, m: u64, items: u64, table: &[u64], slots: &[u8], out: &mut [u8]) -> Writing
     ensures { λ r. ⌜ WriteAs n m items (lent (now (table .entry)) (now (slots .entry))) (now (out .entry)) r (now (out .exit)) ⌝ }
 {
-    if table.len() < 2048 {
+    if table.len() < book::TABLE_LEN {
         return refused(1, 0);
     }
-    if slots.len() < 2176 {
+    if slots.len() < book::SLOTS_LEN {
         return refused(1, 0);
     }
-    if out.len() < 31110 {
+    if out.len() < book::BOOK_LEN {
         return refused(1, 0);
     }
     if !limits::device_fine(n, m) {

@@ -11,7 +11,7 @@ use lib.Seq.{getD-set-same, getD-set-other}
 use Rattle.reversal.specs.Device.{Device}
 use Rattle.reversal.specs.Runs.{Run, last, command, percept}
 use Rattle.reversal.specs.Computed.Sets.{after}
-use Rattle.reversal.specs.Computed.Beliefs.{fore, back, hind, belief}
+use Rattle.reversal.specs.Computed.Beliefs.{filtered, preimage, smoothed, belief}
 use Rattle.assembly.specs.Believed.{Believed}
 
 -- the points up to j have what the forward pass gives
@@ -19,19 +19,19 @@ pub record Forward (d : Device) (r : Run) (i j : ℕ) (sets : List ℕ) : Type 0
   pub size : length sets ≡ 33
   pub few : i ≤ 32
   pub low : j ≤ i
-  pub each : (l : ℕ) → l ≤ j → getD sets l 0 ≡ fore d r l
+  pub each : (l : ℕ) → l ≤ j → getD sets l 0 ≡ filtered d r l
 
 -- the points from j on have what the backward pass gives, those below it still what the forward pass gave
 pub record Backward (d : Device) (r : Run) (i j : ℕ) (sets : List ℕ) : Type 0 where
   pub size : length sets ≡ 33
   pub few : i ≤ 32
   pub low : j ≤ i
-  pub below : (l : ℕ) → l < j → getD sets l 0 ≡ fore d r l
-  pub above : (l : ℕ) → j ≤ l → l ≤ i → getD sets l 0 ≡ hind d r l (i - l)
+  pub below : (l : ℕ) → l < j → getD sets l 0 ≡ filtered d r l
+  pub above : (l : ℕ) → j ≤ l → l ≤ i → getD sets l 0 ≡ smoothed d r l (i - l)
 
 module _ (d : Device) (r : Run) (i : ℕ) where
   pub forward-start : (zeros : List ℕ) (p : ℕ) → length zeros ≡ 33 → i ≤ 32 → p ≡ percept r 0 → Forward d r i 0 (set zeros 0 p)
-  unfolding fore
+  unfolding filtered
   forward-start zeros p s f e =
       record {
         size = length-set zeros 0 p ∙ s;
@@ -43,24 +43,24 @@ module _ (d : Device) (r : Run) (i : ℕ) where
   module _ {j : ℕ} {sets : List ℕ} (g : Forward d r i j sets) where
     pub forward-next : (c p w : ℕ) → j < i → c ≡ command r j → p ≡ percept r (j + 1) → w ≡ bitAnd (after d c (getD sets j 0)) p
         → Forward d r i (j + 1) (set sets (j + 1) w)
-    unfolding fore
+    unfolding filtered
     forward-next c p w l a b e =
         record { size = length-set sets (j + 1) w ∙ g .size; few = g .few; low = omega arith; each = each }
       where
-        new : w ≡ fore d r (suc j)
+        new : w ≡ filtered d r (suc j)
         new = e ∙ ap₂ bitAnd (ap₂ (after d) a (g .each j (omega arith))) (b ∙ ap (percept r) (add-one j))
 
-        each : (k : ℕ) → k ≤ j + 1 → getD (set sets (j + 1) w) k 0 ≡ fore d r k
+        each : (k : ℕ) → k ≤ j + 1 → getD (set sets (j + 1) w) k 0 ≡ filtered d r k
         each k h = go (decLt j k)
           where
-            go : Dec (j < k) → getD (set sets (j + 1) w) k 0 ≡ fore d r k
+            go : Dec (j < k) → getD (set sets (j + 1) w) k 0 ≡ filtered d r k
             go (yes q) =
                 let z : k ≡ j + 1 = omega arith in
-                rw z (getD-set-same sets (j + 1) w 0 (omega (arith, g .size, g .few)) ∙ new ∙ ap (fore d r) (sym (add-one j)))
+                rw z (getD-set-same sets (j + 1) w 0 (omega (arith, g .size, g .few)) ∙ new ∙ ap (filtered d r) (sym (add-one j)))
             go (no q) = getD-set-other sets (j + 1) k w 0 (λ z. omega arith) ∙ g .each k (omega arith)
 
     pub backward-start : j ≡ i → Backward d r i j sets
-    unfolding hind
+    unfolding smoothed
     backward-start e =
         record {
           size = g .size;
@@ -71,9 +71,9 @@ module _ (d : Device) (r : Run) (i : ℕ) where
         }
 
   module _ {j : ℕ} {sets : List ℕ} (g : Backward d r i j sets) where
-    pub backward-next : (c w : ℕ) → 0 < j → c ≡ command r (j - 1) → w ≡ back d c (getD sets (j - 1) 0) (getD sets (j - 1 + 1) 0)
+    pub backward-next : (c w : ℕ) → 0 < j → c ≡ command r (j - 1) → w ≡ preimage d c (getD sets (j - 1) 0) (getD sets (j - 1 + 1) 0)
         → Backward d r i (j - 1) (set sets (j - 1) w)
-    unfolding hind
+    unfolding smoothed
     backward-next c w l a e =
         record {
           size = length-set sets (j - 1) w ∙ g .size;
@@ -83,17 +83,17 @@ module _ (d : Device) (r : Run) (i : ℕ) where
           above = above;
         }
       where
-        new : w ≡ hind d r (j - 1) (i - (j - 1))
+        new : w ≡ smoothed d r (j - 1) (i - (j - 1))
         new =
             let s : i - (j - 1) ≡ suc (i - j) = omega (arith, g .low) in
             let up : j - 1 + 1 ≡ j = omega arith in
             let up′ : suc (j - 1) ≡ j = omega arith in
             e ∙ rw (a, g .below (j - 1) (omega arith), up, g .above j (omega arith) (g .low), s, up′)
 
-        above : (k : ℕ) → j - 1 ≤ k → k ≤ i → getD (set sets (j - 1) w) k 0 ≡ hind d r k (i - k)
+        above : (k : ℕ) → j - 1 ≤ k → k ≤ i → getD (set sets (j - 1) w) k 0 ≡ smoothed d r k (i - k)
         above k h b = go (decLt (j - 1) k)
           where
-            go : Dec (j - 1 < k) → getD (set sets (j - 1) w) k 0 ≡ hind d r k (i - k)
+            go : Dec (j - 1 < k) → getD (set sets (j - 1) w) k 0 ≡ smoothed d r k (i - k)
             go (yes q) = getD-set-other sets (j - 1) k w 0 (λ z. omega arith) ∙ g .above k (omega arith) b
             go (no q) =
                 let z : k ≡ j - 1 = omega arith in
@@ -101,4 +101,4 @@ module _ (d : Device) (r : Run) (i : ℕ) where
 
     pub backward-done : j ≡ 0 → i ≡ last r → Believed d r sets
     unfolding belief
-    backward-done e f = record { size = g .size; each = λ k h. g .above k (omega arith) (omega arith) ∙ ap (λ (x : ℕ). hind d r k (x - k)) f }
+    backward-done e f = record { size = g .size; each = λ k h. g .above k (omega arith) (omega arith) ∙ ap (λ (x : ℕ). smoothed d r k (x - k)) f }

@@ -1,9 +1,9 @@
 #!/bin/sh
 # The tests from outside, with no part of the gate: check.sh [CALLS]
-# The headers under every standard that gcc and clang have; the archive's names; every call between guard
-# pages and, where valgrind is present, under it, CALLS times each (100,000); the stack that rollback.h states;
-# the C and the Rust example on the same inputs; README's example and docs/FORMAT.md's bytes. Its last line
-# says it all.
+# The headers under every standard that gcc and clang have; the archive's names; the constant tables against the
+# generator, where rt check tables has built it; every call between guard pages and, where valgrind is present,
+# under it, CALLS times each (100,000); the stack that rollback.h states; the C and the Rust example on the same
+# inputs; README's example and docs/FORMAT.md's bytes. Its last line says it all.
 set -eu
 cd "$(dirname "$0")/.."
 calls=${1:-100000}
@@ -56,7 +56,15 @@ bytes_of() { od -An -v -tx1 "$1" | tr -d ' \n'; }
 
 part='names'
 c/names.sh "$archive"
-say '6 names'
+say '7 names'
+
+part='constant tables'
+if [ -x target/bin/tables ]; then
+    crates/tables/make.sh --check
+    say 'constant tables as generated'
+else
+    say 'no target/bin/tables'
+fi
 
 part='build'
 for program in plan guard stack; do

@@ -19,12 +19,12 @@
 #include <sys/wait.h>
 #include <unistd.h>
 
-enum { PAGE = 4096, BOOK_ROOM = 10 * PAGE, CODES = 12 };
+enum { PAGE = 4096, BOOK_ROOM = 10 * PAGE, CALLS = 7, CODES = 12 };
 
 static int heap;
 static uint64_t state;
 static unsigned long calls_made, refusals_repeated;
-static unsigned long met[6][CODES];
+static unsigned long met[CALLS][CODES];
 static const char *volatile now = "start";
 
 static uint64_t word(void) {
@@ -319,6 +319,20 @@ static uint64_t some_number(uint64_t usual) {
     return below(6) != 0 ? usual : below(2) ? usual + below(5) - 2 : below(2) ? below(100) : word() >> below(64);
 }
 
+/* A lookup of a device with so many states and commands; whether a mask of its table may be empty. */
+static void looking_up(size_t call, const char *name, rollback_lookup (*lookup)(uint64_t, uint64_t),
+                       size_t states, size_t commands, int may_be_empty) {
+    uint64_t number = below(4) ? below(states) : some_number(states - 1);
+    uint64_t command = below(4) ? below(commands) : some_number(commands - 1);
+    uint64_t expected = number >= states || command >= commands ? 5 : 0;
+    rollback_lookup r;
+    now = name;
+    r = lookup(number, command);
+    count(call, r.code, 0);
+    if (r.code != expected || r.place != 0 || (expected != 0 ? r.mask != 0 : r.mask == 0 && !may_be_empty))
+        fail("gave a wrong answer");
+}
+
 /* All calls on one book and run. */
 static void all_calls(const uint8_t *book_bytes, size_t book_length, const uint8_t *run_bytes, size_t run_length) {
     /* What the last good book was read to. */
@@ -328,8 +342,7 @@ static void all_calls(const uint8_t *book_bytes, size_t book_length, const uint8
     rollback_reading r;
     rollback_assembly a;
     rollback_writing w;
-    rollback_lookup looked;
-    uint64_t n, m, all, number, command, expected;
+    uint64_t n, m, all;
     int at_end = (int)below(2), as_structs;
     give(&book, book_bytes, book_length, book_length, at_end);
     give(&run, run_bytes, run_length, run_length, at_end);
@@ -363,14 +376,8 @@ static void all_calls(const uint8_t *book_bytes, size_t book_length, const uint8
     w = writing(n, m, all, l, at_end, NULL);
     writing(n, m, all, l, !at_end, &w);
 
-    number = below(4) ? below(64) : some_number(63);
-    command = below(4) ? below(16) : some_number(15);
-    expected = number > 63 || command > 15 ? 5 : 0;
-    now = "rollback_ridge";
-    looked = rollback_ridge(number, command);
-    count(5, looked.code, 0);
-    if (looked.code != expected || looked.place != 0 || (expected != 0 && looked.mask != 0))
-        fail("gave a wrong answer");
+    looking_up(5, "rollback_ridge", rollback_ridge, 64, 16, 1);
+    looking_up(6, "rollback_portable", rollback_portable, 32, 12, 0);
 }
 
 /* That the pages do what they are for: each of these must end by a fault. */
@@ -396,8 +403,8 @@ static void try_pages(void) {
 }
 
 int main(int argc, char **argv) {
-    static const char *const names[] = {"read", "check", "assemble", "assemble_legs", "write", "ridge"};
-    static const unsigned has[] = {0x0FF, 0x1FF, 0xFFF, 0xFFF, 0x0A3, 0x021};
+    static const char *const names[CALLS] = {"read", "check", "assemble", "assemble_legs", "write", "ridge", "portable"};
+    static const unsigned has[CALLS] = {0x0FF, 0x1FF, 0xFFF, 0xFFF, 0x0A3, 0x021, 0x021};
     static uint8_t book_bytes[BOOK_ROOM], run_bytes[BOOK_ROOM];
     file cases;
     pair *pairs;
@@ -445,7 +452,7 @@ int main(int argc, char **argv) {
             run_length = damage(run_bytes, run_length);
         all_calls(book_bytes, book_length, run_bytes, run_length);
     }
-    for (call = 0; call < 6; call++) {
+    for (call = 0; call < CALLS; call++) {
         printf("%s:", names[call]);
         for (code = 0; code < CODES; code++)
             if (has[call] >> code & 1) {

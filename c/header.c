@@ -63,7 +63,7 @@ int main(void) {
     if (read.code != ROLLBACK_E_DONE || read.n != 1 || read.m != 1 || read.items != 0 || checked.code != read.code ||
         bytes.code != ROLLBACK_E_DONE || bytes.fewest[0] != 0 || bytes.fewest[1] != ROLLBACK_NONE ||
         in_structs.code != bytes.code || written.code != ROLLBACK_E_DONE || written.length != 20 ||
-        memcmp(book, small, 20) != 0 || rollback_ridge(0, 13).mask != 15) {
+        memcmp(book, small, 20) != 0 || rollback_ridge(0, 13).mask != 15 || rollback_portable(16, 5).mask != 2162688) {
         printf("a call gives a wrong answer\n");
         wrong = 1;
     }

@@ -59,6 +59,11 @@ static void ridge(void) {
     code = r.code;
 }
 
+static void portable(void) {
+    rollback_lookup r = rollback_portable(16, 2);
+    code = r.code;
+}
+
 static void (*caller)(void);
 
 /* Calls below a gap that a thread's own start and end don't reach across. */
@@ -100,6 +105,7 @@ static const struct {
     {"rollback_assemble_legs", assemble_legs, ROLLBACK_ASSEMBLE_LEGS_STACK},
     {"rollback_write", write_book, ROLLBACK_WRITE_STACK},
     {"rollback_ridge", ridge, ROLLBACK_RIDGE_STACK},
+    {"rollback_portable", portable, ROLLBACK_PORTABLE_STACK},
 };
 enum { CALLS = sizeof calls / sizeof calls[0] };
 static size_t deepest[CALLS];

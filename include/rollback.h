@@ -30,9 +30,9 @@ extern "C" {
 #endif
 
 /* Of this header; the Rust crate has the same. */
-#define ROLLBACK_VERSION "0.2.0"
+#define ROLLBACK_VERSION "0.3.0"
 #define ROLLBACK_VERSION_MAJOR 0
-#define ROLLBACK_VERSION_MINOR 2
+#define ROLLBACK_VERSION_MINOR 3
 #define ROLLBACK_VERSION_PATCH 0
 
 /* The least lengths of lent buffers, in elements. A shorter one is refused with code 1. */
@@ -62,6 +62,7 @@ extern "C" {
 #define ROLLBACK_ASSEMBLE_LEGS_STACK 4096
 #define ROLLBACK_WRITE_STACK 512
 #define ROLLBACK_RIDGE_STACK 512
+#define ROLLBACK_PORTABLE_STACK 512
 
 /* In fewest: no chain from that point. */
 #define ROLLBACK_NONE 65535
@@ -106,7 +107,7 @@ typedef struct {
     uint64_t code, place, length;
 } rollback_writing;
 
-/* From the ridge repeater's table: the outcomes, 0 on a refusal. */
+/* From a lookup in a device's table: the outcomes, 0 on a refusal. */
 typedef struct {
     uint64_t code, place, mask;
 } rollback_lookup;
@@ -194,6 +195,12 @@ rollback_writing rollback_write(
  * Codes: 0; 5 at place 0 for a state over 63 or a command over 15.
  */
 rollback_lookup rollback_ridge(uint64_t state, uint64_t command);
+
+/*
+ * The outcomes of a command of the portable relay (32 states, 12 commands) in a state.
+ * Codes: 0; 5 at place 0 for a state over 31 or a command over 11.
+ */
+rollback_lookup rollback_portable(uint64_t state, uint64_t command);
 
 #ifdef __cplusplus
 }

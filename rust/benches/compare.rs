@@ -106,15 +106,29 @@ const PAIRS: [Pair; 5] = [
     },
 ];
 
-const RIDGE: Pair = Pair {
-    name: "ridge, all 1,024 lookups",
-    verified: |_| every_entry(|state, command| calls::ridge(state, command).code),
-    plain: |_| every_entry(|state, command| rollback_plain::ridge(state, command).code),
-};
+const LOOKUPS: [Pair; 2] = [
+    Pair {
+        name: "ridge, all 1,024 lookups",
+        verified: |_| every_entry(64, 16, |s, c| black_box(calls::ridge(s, c)).code),
+        plain: |_| every_entry(64, 16, |s, c| black_box(rollback_plain::ridge(s, c)).code),
+    },
+    Pair {
+        name: "portable, all 384 lookups",
+        verified: |_| every_entry(32, 12, |s, c| black_box(calls::portable(s, c)).code),
+        plain: |_| {
+            every_entry(32, 12, |s, c| {
+                black_box(rollback_plain::portable(s, c)).code
+            })
+        },
+    },
+];
 
-fn every_entry(lookup: fn(u64, u64) -> u64) -> u64 {
-    (0..1_024)
-        .map(|entry| black_box(lookup(entry / 16, entry % 16)))
+/// Each entry looked up. Numbers and result are opaque, so that no program leaves the mask out.
+fn every_entry(states: u64, commands: u64, lookup: fn(u64, u64) -> u64) -> u64 {
+    (0..states)
+        .flat_map(|state| {
+            (0..commands).map(move |command| lookup(black_box(state), black_box(command)))
+        })
         .sum()
 }
 
@@ -247,7 +261,10 @@ fn main() {
             compare(pair, &mut lent, &format!("{name}: {}", pair.name));
         }
     }
-    compare(&RIDGE, &mut Lent::new(q_book(), q5_run()), RIDGE.name);
+    let mut lent = Lent::new(q_book(), q5_run());
+    for pair in &LOOKUPS {
+        compare(pair, &mut lent, pair.name);
+    }
     growth(
         "Checking by states (64 items, k = r = 8)",
         "n",

@@ -69,11 +69,11 @@ pub struct Writing {
     pub length: u64,
 }
 
-/// What looking up the ridge repeater's table answers.
+/// What a lookup in a device's table answers.
 #[repr(C)]
 #[derive(Clone, Copy, Debug, PartialEq, Eq)]
 pub struct Lookup {
-    /// 0, or 5 for a state or command that the repeater doesn't have.
+    /// 0, or 5 for a state or command that the device doesn't have.
     pub code: u64,
     /// 0.
     pub place: u64,
@@ -132,6 +132,7 @@ mod sys {
             out: *mut u8, out_len: usize,
         ) -> Writing;
         pub fn rollback_ridge(state: u64, command: u64) -> Lookup;
+        pub fn rollback_portable(state: u64, command: u64) -> Lookup;
     }
 }
 
@@ -229,4 +230,10 @@ pub fn write(n: u64, m: u64, items: u64, table: &[u64], slots: &[u8], out: &mut 
 #[must_use]
 pub fn ridge(state: u64, command: u64) -> Lookup {
     unsafe { sys::rollback_ridge(state, command) }
+}
+
+/// Looks up the portable relay's table. Codes 0, 5.
+#[must_use]
+pub fn portable(state: u64, command: u64) -> Lookup {
+    unsafe { sys::rollback_portable(state, command) }
 }

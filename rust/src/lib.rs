@@ -11,7 +11,7 @@
 //! bytes of books and runs.
 //!
 //! Without the default feature `std` the crate needs `core` alone, and has [`calls`], [`Fault`],
-//! [`WriteFault`], [`record_at`] and [`ridge`].
+//! [`WriteFault`], [`record_at`], [`ridge`] and [`portable`].
 //!
 //! ```
 //! // A switch: command 0 turns it off, command 1 on. "Off" undoes "on" if it was off before.
@@ -66,7 +66,23 @@ pub const NONE: u16 = 65_535;
 /// ```
 #[must_use]
 pub fn ridge(state: u64, command: u64) -> Option<u64> {
-    let r = calls::ridge(state, command);
+    found(calls::ridge(state, command))
+}
+
+/// The outcomes of a command of the portable relay in a state. None for a state over 31 or a
+/// command over 11.
+///
+/// ```
+/// assert_eq!(rollback::portable(0, 5), Some(1 << 5));
+/// assert_eq!(rollback::portable(16, 5), Some(1 << 16 | 1 << 21)); // in relay it may stay
+/// assert_eq!(rollback::portable(32, 0), None);
+/// ```
+#[must_use]
+pub fn portable(state: u64, command: u64) -> Option<u64> {
+    found(calls::portable(state, command))
+}
+
+fn found(r: calls::Lookup) -> Option<u64> {
     (r.code == 0).then_some(r.mask)
 }
 

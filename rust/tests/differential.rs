@@ -58,7 +58,7 @@ impl After {
 /// All calls of a program on one input.
 macro_rules! answers {
     ($name:ident, $program:ident) => {
-        fn $name(input: &Input) -> [After; 6] {
+        fn $name(input: &Input) -> [After; 7] {
             let mut read = After::lent("read", input);
             let r = $program::read(&input.book, &mut read.table, &mut read.slots);
             read.result = vec![r.code, r.place, r.n, r.m, r.items];
@@ -100,14 +100,17 @@ macro_rules! answers {
             let r = $program::write(n, m, items, table, slots, &mut write.out);
             write.result = vec![r.code, r.place, r.length];
 
-            let mut ridge = After {
-                call: "ridge",
+            let looked_up = |call, r: $program::Lookup| After {
+                call,
+                result: vec![r.code, r.place, r.mask],
                 ..After::default()
             };
-            let r = $program::ridge(input.state, input.command);
-            ridge.result = vec![r.code, r.place, r.mask];
+            let (state, command) = input.ridge;
+            let ridge = looked_up("ridge", $program::ridge(state, command));
+            let (state, command) = input.portable;
+            let portable = looked_up("portable", $program::portable(state, command));
 
-            [read, check, assemble, assemble_legs, write, ridge]
+            [read, check, assemble, assemble_legs, write, ridge, portable]
         }
     };
 }
@@ -115,13 +118,14 @@ answers!(by_library, verified);
 answers!(by_plain_program, plain);
 
 /// The calls with the codes that each has.
-const CODES: [(&str, &[u64]); 6] = [
+const CODES: [(&str, &[u64]); 7] = [
     ("read", &[0, 1, 2, 3, 4, 5, 6, 7]),
     ("check", &[0, 1, 2, 3, 4, 5, 6, 7, 8]),
     ("assemble", &[0, 1, 2, 3, 4, 5, 6, 7, 8, 9, 10, 11]),
     ("assemble_legs", &[0, 1, 2, 3, 4, 5, 6, 7, 8, 9, 10, 11]),
     ("write", &[0, 1, 5, 7]),
     ("ridge", &[0, 5]),
+    ("portable", &[0, 5]),
 ];
 
 fn number(name: &str, usual: u64) -> u64 {
@@ -133,7 +137,7 @@ fn the_library_answers_as_the_plain_program() {
     let first = number("ROLLBACK_SEED", 0);
     let count = number("ROLLBACK_COUNT", 100_000);
     let (mut compared, mut differ) = (0, 0);
-    let mut met = [[0; 12]; 6];
+    let mut met = [[0; 12]; CODES.len()];
     for seed in first..first + count {
         let given = input(seed);
         let before = given.clone();

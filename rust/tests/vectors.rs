@@ -1,7 +1,7 @@
 //! The cases that a second program has answered, against the library.
 
-use rollback::calls::{self, Leg, Reading};
-use rollback_cases::{assemble_cases, book_cases, ridge_masks, write_cases};
+use rollback::calls::{self, Leg, Lookup, Reading};
+use rollback_cases::{assemble_cases, book_cases, masks, write_cases};
 
 const FILL: u8 = 0xA5;
 
@@ -93,13 +93,20 @@ fn writing() {
     assert_eq!(cases.len(), 500);
 }
 
-#[test]
-fn ridge() {
-    let masks = ridge_masks();
-    for (entry, &mask) in masks.iter().enumerate() {
-        let r = calls::ridge(entry as u64 / 16, entry as u64 % 16);
+fn finds(call: fn(u64, u64) -> Lookup, commands: u64, masks: &[u64]) {
+    for (entry, &mask) in (0..).zip(masks) {
+        let r = call(entry / commands, entry % commands);
         assert_eq!([r.code, r.place, r.mask], [0, 0, mask], "entry {entry}");
     }
-    println!("ridge: {} masks", masks.len());
-    assert_eq!(masks.len(), 1_024);
+    println!("lookups: {} masks", masks.len());
+}
+
+#[test]
+fn ridge() {
+    finds(calls::ridge, 16, &masks().ridge);
+}
+
+#[test]
+fn portable() {
+    finds(calls::portable, 12, &masks().portable);
 }

@@ -14,4 +14,4 @@ lent-read b l a long = record { table-read = table-read b (l .table) a (long .0)
 
 pub same-lent : (b : Book) (l : Lent) → AllowedBook b → (x y : Lent) → LentRead b l x → LentRead b l y → x ≡ y
 same-lent b l a x y p q =
-    ap₂ lent (same-table b a (l .table) (x .table) (y .table) (p .table-read) (q .table-read)) (same-written (p .slots-read) (q .slots-read))
+    ap₂ lent (same-table b (l .table) (x .table) (y .table) (p .table-read) (q .table-read)) (same-written (p .slots-read) (q .slots-read))

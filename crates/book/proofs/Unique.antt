@@ -1,14 +1,14 @@
 -- What 01 says of bytes, tables and slots leaves one answer only: one table, one book of the same bytes, one refusal, and never both.
 -- Assumes nothing.
-use mathlib.Core.Path.{_≡_, sym, ap, _∙_, subst}
+use mathlib.Core.Path.{_≡_, sym, ap, _∙_}
 use mathlib.Core.List.{List}
-use Prim.Native.Nat.{ℕ, _+_, _*_, _/_, _%_, _<_}
-use native.Mathlib.Nat.{mod-lt, div-add-mod', div-lt-iff-lt-mul}
+use Prim.Native.Nat.{ℕ, _*_, _<_}
 use native.Mathlib.Decide.{decLt}
 use native.Mathlib.Omega.{arith}
 use lib.ListN.{length, getD}
 use lib.Seq.{ext-getD}
 use Rattle.base.specs.Lists.{Bytes}
+use Rattle.base.proofs.Tables.{each-entry}
 use Rattle.book.specs.Book.{Book, AllowedBook, bytesOf}
 use Rattle.book.specs.Lent.{TableRead}
 use Rattle.book.specs.Refusal.{Refusal}
@@ -19,22 +19,19 @@ use Rattle.book.proofs.Refused.{refused-exactly}
 
 -- ---- the table
 -- an entry below n × m is that of some state and command
-pub same-entry : (b : Book) → AllowedBook b → {old old′ x y : List ℕ} → TableRead b old x → TableRead b old′ y → (i : ℕ) → i < b .n * b .m
+pub same-entry : (b : Book) → {old old′ x y : List ℕ} → TableRead b old x → TableRead b old′ y → (i : ℕ) → i < b .n * b .m
     → getD x i 0 ≡ getD y i 0
-same-entry b a {x = x} {y = y} p q i h =
-    let e : i / b .m * b .m + i % b .m ≡ i = div-add-mod' i (b .m) in
-    let s : i / b .m < b .n = div-lt-iff-lt-mul (a .device .m-low) .1 h in
-    let c : i % b .m < b .m = mod-lt i (a .device .m-low) in
-    subst (λ (j : ℕ). getD x j 0 ≡ getD y j 0) e (p .entries (i / b .m) (i % b .m) s c ∙ sym (q .entries (i / b .m) (i % b .m) s c))
+same-entry b {x = x} {y = y} p q =
+    each-entry (b .n) (b .m) (λ j. getD x j 0 ≡ getD y j 0) (λ s c hs hc. p .entries s c hs hc ∙ sym (q .entries s c hs hc))
 
-pub same-table : (b : Book) → AllowedBook b → (old x y : List ℕ) → TableRead b old x → TableRead b old y → x ≡ y
-same-table b a old x y p q = ext-getD 0 x y (p .size ∙ sym (q .size)) at
+pub same-table : (b : Book) (old x y : List ℕ) → TableRead b old x → TableRead b old y → x ≡ y
+same-table b old x y p q = ext-getD 0 x y (p .size ∙ sym (q .size)) at
   where
     at : (i : ℕ) → i < length x → getD x i 0 ≡ getD y i 0
     at i l = go (decLt i (b .n * b .m))
       where
         go : Dec (i < b .n * b .m) → getD x i 0 ≡ getD y i 0
-        go (yes h) = same-entry b a p q i h
+        go (yes h) = same-entry b p q i h
         go (no h) = p .kept i (omega arith) ∙ sym (q .kept i (omega arith))
 
 -- ---- the book

@@ -1,5 +1,5 @@
 -- The claims of each call, of any routine that keeps the call's contract. Assumes nothing.
-use mathlib.Core.Path.{_≡_, subst₂}
+use mathlib.Core.Path.{_≡_, subst⁻¹, subst₂}
 use mathlib.Core.List.{List}
 use Prim.Native.Nat.{ℕ}
 use prog.Routine.{Routine}
@@ -22,9 +22,17 @@ use Rattle.assembly.specs.Contract.{AssembleAs}
 use Rattle.assembly.proofs.Exactly.{even-bytes, assembles}
 use Rattle.assembly.proofs.Demand.{demand}
 use Rattle.assembly.proofs.assemble as assemble
-use Rattle.ridge.specs.Computed.{lookupOf}
-use Rattle.ridge.proofs.Exactly.{looked}
+use Rattle.lookups.specs.Rules.{DeviceRule, OutcomesOf, WorksOut}
+use Rattle.lookups.specs.Lookup.{EqualsRule}
+use Rattle.lookups.specs.Computed.{lookupOf, WorksOutAll}
+use Rattle.lookups.proofs.Tables.{entry-generated}
+use Rattle.lookups.proofs.Exactly.{looked}
+use Rattle.ridge_rule.specs.Ridge.{ridge}
+use Rattle.ridge_rule.proofs.outcomes as outcomes
 use Rattle.ridge.proofs.lookup as lookup
+use Rattle.ridge.proofs.table as ridge-table
+use Rattle.portable_rule.specs.Portable.{portable}
+use Rattle.portable.proofs.table as portable-table
 use Rattle.planner.specs.Structs.{inStructs}
 use Rattle.planner.proofs.Structs.{even-structs}
 use Rattle.planner.proofs.rollback_assemble_legs as assemble-legs
@@ -32,10 +40,13 @@ use Rattle.report.specs.Contract.{ReportAs}
 use Rattle.report.proofs.Exactly.{reports}
 use Rattle.report.proofs.report as report
 use Rattle.claims.specs.Always.{Always}
-use Rattle.claims.specs.Claims.{onRead, onWrite, onAssemble, onLegs, onLookup, onReport, WellWritten, ReadClaims, CheckClaims, WriteClaims, AssembleClaims, LegsClaims, LookupClaims, ReportClaims}
+use Rattle.claims.specs.Claims.{onRead, onWrite, onAssemble, onLegs, onLookup, onOutcomes, onReport, WellWritten, ReadClaims, CheckClaims, WriteClaims, AssembleClaims, LegsClaims, LookupClaims, RuleClaims, ConstantTable, RidgeTable, PortableTable, ReportClaims}
 use Rattle.claims.specs.Worked.{ChecksWorked, AssemblesWorked}
 use Rattle.claims.proofs.Weaker.{weaker}
 use Rattle.claims.proofs.RoundTrips.{read-back, write-back}
+
+constant-table : {d : DeviceRule} {not-empty : ℕ} {table : List ℕ} → EqualsRule d not-empty table → ConstantTable d not-empty table
+constant-table {d} q = record { equals-rule = q; generated = entry-generated d q }
 
 module _ (ρ : Routine) where
   pub read-claims : Always read.ended ρ (onRead ReadAs) → ReadClaims ρ
@@ -80,12 +91,26 @@ module _ (ρ : Routine) where
             (λ κs a r e c. demand even-structs (c .bytes) (assembles even-structs c)) always;
       }
 
-  pub lookup-claims : Always lookup.ended ρ (onLookup (λ state command r. r ≡ lookupOf state command)) → LookupClaims ρ
-  lookup-claims always =
+  pub lookup-claims : {d : DeviceRule} {f : ℕ → ℕ → ℕ} → WorksOut d f → Always lookup.ended ρ (onLookup (λ s k r. r ≡ lookupOf d f s k))
+      → LookupClaims d ρ
+  lookup-claims {d} {f} works always =
+      record {
+        says = weaker lookup.ended ρ (onLookup (λ s k r. r ≡ lookupOf d f s k)) _ (λ κs a r e. looked works (a .0) (a .1 .0) r) always;
+      }
+
+  pub rule-claims : {d : DeviceRule} {f : ℕ → ℕ → ℕ} → WorksOutAll d f → Always outcomes.ended ρ (onOutcomes (λ s k w. w ≡ f s k)) → RuleClaims d ρ
+  rule-claims {d} {f} masks always =
       record {
         says =
-            weaker lookup.ended ρ (onLookup (λ state command r. r ≡ lookupOf state command)) _ (λ κs a r e. looked (a .0) (a .1 .0) r) always;
+            weaker outcomes.ended ρ (onOutcomes (λ s k w. w ≡ f s k)) (onOutcomes (OutcomesOf d))
+            (λ κs a r e c. subst⁻¹ (OutcomesOf d (a .0) (a .1 .0)) c (masks (a .0) (a .1 .0))) always;
       }
+
+  pub ridge-table-claims : Always ridge-table.ended ρ (λ κs a r e. EqualsRule ridge 616 r) → RidgeTable ρ
+  ridge-table-claims = weaker ridge-table.ended ρ (λ κs a r e. EqualsRule ridge 616 r) _ (λ κs a r e. constant-table)
+
+  pub portable-table-claims : Always portable-table.ended ρ (λ κs a r e. EqualsRule portable 384 r) → PortableTable ρ
+  portable-table-claims = weaker portable-table.ended ρ (λ κs a r e. EqualsRule portable 384 r) _ (λ κs a r e. constant-table)
 
   pub report-claims : Always report.ended ρ (onReport ReportAs) → ReportClaims ρ
   report-claims always =

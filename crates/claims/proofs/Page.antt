@@ -8,6 +8,7 @@ use lib.Dec.{T}
 use lib.ListN.{length, getD, take, drop}
 use Rattle.base.specs.Sets.{In, NoBitFrom}
 use Rattle.base.specs.Lists.{Each, Bytes}
+use Rattle.base.specs.Tables.{every, byRule}
 use Rattle.reversal.specs.Device.{Device, Proper, tabled}
 use Rattle.reversal.specs.Reversal.{Item, Executable, EndsIn, Accepted, Returns}
 use Rattle.reversal.specs.Runs.{Run, AllowedRun, last, Possible}
@@ -63,13 +64,31 @@ use Rattle.assembly.proofs.Cases.{runs, leg-runs}
 use Rattle.assembly.proofs.assemble as assemble
 use Rattle.assembly.proofs.assemble.Symbol.{routine as assemble-routine}
 use Rattle.assembly.proofs.assemble.Met.{met as assemble-met}
-use Rattle.ridge.specs.declared.LookupResult.{LookupResult}
-use Rattle.ridge.specs.Lookup.{Looked}
-use Rattle.ridge.specs.Figures.{Figures}
-use Rattle.ridge.proofs.Exactly.{looked-unique}
-use Rattle.ridge.proofs.Figures.{figures}
-use Rattle.ridge.proofs.lookup.Symbol.{routine as lookup-routine}
-use Rattle.ridge.proofs.lookup.Met.{met as lookup-met}
+use Rattle.lookups.specs.declared.LookupResult.{LookupResult}
+use Rattle.lookups.specs.Rules.{DeviceRule, WorksOut, LeadsInside}
+use Rattle.lookups.specs.Lookup.{filled, EqualsRule, Looked}
+use Rattle.lookups.proofs.Tables.{rule-to-table, table-unique}
+use Rattle.lookups.proofs.Exactly.{looked-unique}
+use Rattle.ridge_rule.specs.Ridge.{ridge}
+use Rattle.ridge_rule.specs.Figures as ridge-example
+use Rattle.ridge_rule.proofs.Rules.{rule-mask as ridge-mask, works-out as ridge-works-out, leads-inside as ridge-leads-inside}
+use Rattle.ridge_rule.proofs.Figures as ridge-cases
+use Rattle.ridge.proofs.lookup.Symbol.{routine as ridge-lookup-routine}
+use Rattle.ridge.proofs.lookup.Met.{met as ridge-lookup-met}
+use Rattle.ridge_rule.proofs.outcomes.Symbol.{routine as ridge-outcomes-routine}
+use Rattle.ridge_rule.proofs.outcomes.Met.{met as ridge-outcomes-met}
+use Rattle.ridge.proofs.table.Symbol.{routine as ridge-table-routine}
+use Rattle.ridge.proofs.table.Met.{met as ridge-table-met}
+use Rattle.portable_rule.specs.Portable.{portable}
+use Rattle.portable_rule.specs.Figures as portable-example
+use Rattle.portable_rule.proofs.Rules.{rule-mask as portable-mask, works-out as portable-works-out, leads-inside as portable-leads-inside}
+use Rattle.portable_rule.proofs.Figures as portable-cases
+use Rattle.portable.proofs.lookup.Symbol.{routine as portable-lookup-routine}
+use Rattle.portable.proofs.lookup.Met.{met as portable-lookup-met}
+use Rattle.portable_rule.proofs.outcomes.Symbol.{routine as portable-outcomes-routine}
+use Rattle.portable_rule.proofs.outcomes.Met.{met as portable-outcomes-met}
+use Rattle.portable.proofs.table.Symbol.{routine as portable-table-routine}
+use Rattle.portable.proofs.table.Met.{met as portable-table-met}
 use Rattle.planner.specs.Structs.{inStructs}
 use Rattle.planner.specs.Cases.{StructRuns}
 use Rattle.planner.proofs.Cases.{struct-runs}
@@ -86,6 +105,8 @@ use Rattle.planner.proofs.rollback_assemble_legs.Symbol.{routine as assemble-le
 use Rattle.planner.proofs.rollback_assemble_legs.Met.{met as assemble-legs-met}
 use Rattle.planner.proofs.rollback_ridge.Symbol.{routine as exported-ridge-routine}
 use Rattle.planner.proofs.rollback_ridge.Met.{met as exported-ridge-met}
+use Rattle.planner.proofs.rollback_portable.Symbol.{routine as exported-portable-routine}
+use Rattle.planner.proofs.rollback_portable.Met.{met as exported-portable-met}
 use Rattle.report.specs.Prints.{Prints}
 use Rattle.report.specs.Example.{Examples}
 use Rattle.report.proofs.Exactly.{prints-first}
@@ -93,10 +114,10 @@ use Rattle.report.proofs.Unique.{prints-unique}
 use Rattle.report.proofs.Cases.{examples}
 use Rattle.report.proofs.report.Symbol.{routine as report-routine}
 use Rattle.report.proofs.report.Met.{met as report-met}
-use Rattle.claims.specs.Claims.{onRead, onAssemble, onLegs, ReadClaims, CheckClaims, WriteClaims, AssembleClaims, LegsClaims, LookupClaims, ReportClaims}
+use Rattle.claims.specs.Claims.{onRead, onAssemble, onLegs, ReadClaims, CheckClaims, WriteClaims, AssembleClaims, LegsClaims, LookupClaims, RuleClaims, RidgeTable, PortableTable, ReportClaims}
 use Rattle.claims.specs.Always.{Always}
 use Rattle.claims.specs.Worked.{ChecksWorked, AssemblesWorked}
-use Rattle.claims.proofs.Calls.{read-claims, check-claims, write-claims, assemble-claims, legs-claims, lookup-claims, report-claims, check-worked, assemble-worked, legs-worked}
+use Rattle.claims.proofs.Calls.{read-claims, check-claims, write-claims, assemble-claims, legs-claims, lookup-claims, rule-claims, ridge-table-claims, portable-table-claims, report-claims, check-worked, assemble-worked, legs-worked}
 
 -- ---- the meaning
 
@@ -142,6 +163,18 @@ end-to-end = chain-undoes
 pub answering : (d : Device) (items : List Item) (r : Run) → Allowed d items r → Answers d items r (answer d items r)
 answering = answer-right
 
+-- 02: "The step from a rule to a table is proved for any device rule": one computed test over all entries makes the table the rule's
+pub from-rule-to-table : {d : DeviceRule} {f : ℕ → ℕ → ℕ} → WorksOut d f → {not-empty : ℕ} {table : List ℕ} → length table ≡ d .n * d .m
+    → T (every (byRule (d .m) f) 0 table) → filled table ≡ not-empty → EqualsRule d not-empty table
+from-rule-to-table works = rule-to-table works
+
+-- 01: "Every mask has no bit at n or above": every outcome of the two devices is a state of theirs
+pub ridge-inside : LeadsInside ridge
+ridge-inside = ridge-leads-inside
+
+pub portable-inside : LeadsInside portable
+portable-inside = portable-leads-inside
+
 -- the largest book has 31,110 bytes
 pub longest : (bytes : List ℕ) → WellFormed bytes → length bytes ≤ 31110
 longest bytes (b, a, e) = subst (λ (s : List ℕ). length s ≤ 31110) e (length-book b a)
@@ -179,11 +212,31 @@ exported-assembling = assemble-claims exported-assemble-routine (λ M. exported-
 pub assembling-legs : LegsClaims assemble-legs-routine
 assembling-legs = legs-claims assemble-legs-routine (λ M. assemble-legs-met)
 
-pub looking-up : LookupClaims lookup-routine
-looking-up = lookup-claims lookup-routine (λ M. lookup-met)
+-- the ridge repeater: its lookup, its constant table, and its rule's function, which the generator prints
+pub looking-up-ridge : LookupClaims ridge ridge-lookup-routine
+looking-up-ridge = lookup-claims ridge-lookup-routine ridge-works-out (λ M. ridge-lookup-met)
 
-pub exported-looking-up : LookupClaims exported-ridge-routine
-exported-looking-up = lookup-claims exported-ridge-routine (λ M. exported-ridge-met)
+pub exported-looking-up-ridge : LookupClaims ridge exported-ridge-routine
+exported-looking-up-ridge = lookup-claims exported-ridge-routine ridge-works-out (λ M. exported-ridge-met)
+
+pub ridge-table : RidgeTable ridge-table-routine
+ridge-table = ridge-table-claims ridge-table-routine (λ M. ridge-table-met)
+
+pub ridge-rule : RuleClaims ridge ridge-outcomes-routine
+ridge-rule = rule-claims ridge-outcomes-routine ridge-mask (λ M. ridge-outcomes-met)
+
+-- the portable relay: the same
+pub looking-up-portable : LookupClaims portable portable-lookup-routine
+looking-up-portable = lookup-claims portable-lookup-routine portable-works-out (λ M. portable-lookup-met)
+
+pub exported-looking-up-portable : LookupClaims portable exported-portable-routine
+exported-looking-up-portable = lookup-claims exported-portable-routine portable-works-out (λ M. exported-portable-met)
+
+pub portable-table : PortableTable portable-table-routine
+portable-table = portable-table-claims portable-table-routine (λ M. portable-table-met)
+
+pub portable-rule : RuleClaims portable portable-outcomes-routine
+portable-rule = rule-claims portable-outcomes-routine portable-mask (λ M. portable-outcomes-met)
 
 -- the text that the program prints
 pub printing : ReportClaims report-routine
@@ -211,8 +264,11 @@ pub only-assembling : {E : Type 0} {form : LegForm E} {book run : List ℕ} {l :
     → Assembles form book run l r l′ → Assembles form book run l q l″ → (r ≡ q) × (l′ ≡ l″)
 only-assembling h x y = assembles-unique h x y
 
-pub only-looking-up : (state command : ℕ) (r q : LookupResult) → Looked state command r → Looked state command q → r ≡ q
+pub only-looking-up : (d : DeviceRule) (state command : ℕ) (r q : LookupResult) → Looked d state command r → Looked d state command q → r ≡ q
 only-looking-up = looked-unique
+
+pub only-table : (d : DeviceRule) {not-empty : ℕ} {table table′ : List ℕ} → EqualsRule d not-empty table → EqualsRule d not-empty table′ → table ≡ table′
+only-table = table-unique
 
 pub only-printing : {book run text text′ : List ℕ} → Bytes (take 31111 book) → Prints book run text → Prints book run text′ → text ≡ text′
 only-printing = prints-unique
@@ -282,6 +338,9 @@ spoilt-runs = run-cases.spoilt
 pub spoilt-writing : write-example.Spoilt
 spoilt-writing = write-cases.spoilt
 
--- masks of the ridge repeater, worked out by hand
-pub ridge-figures : Figures
-ridge-figures = figures
+-- masks of the two devices, worked out by hand
+pub ridge-figures : ridge-example.Figures
+ridge-figures = ridge-cases.figures
+
+pub portable-figures : portable-example.Figures
+portable-figures = portable-cases.figures

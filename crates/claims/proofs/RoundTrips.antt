@@ -67,7 +67,7 @@ read-back {book} {l} {r} {l′} h reads n m items given out w out′ x z e long 
               ∙ ap (λ (k : ℕ). record { code = 0; place = 0; n = n; m = m; items = k }) (holds .count));
           entries =
               λ i k.
-              same-entry b allowed (f .read .table-read) (holds .entries) i
+              same-entry b (f .read .table-read) (holds .entries) i
               (subst (λ (c : ℕ). i < c) (ap₂ (λ (i j : ℕ). i * j) (sym (holds .states)) (sym (holds .commands))) k);
           slots-same =
               ap (λ (k : ℕ). take k (l′ .slots)) (sym size)

@@ -3,7 +3,7 @@
 use mathlib.Core.Path.{_≡_}
 use mathlib.Core.Logic.{_↔_}
 use mathlib.Core.List.{List}
-use Prim.Native.Nat.{ℕ, _*_, _<_, _≤_}
+use Prim.Native.Nat.{ℕ, _*_, _/_, _%_, _<_, _≤_}
 use prog.Routine.{Routine}
 use lib.ListN.{length, getD, take}
 use denote.Ref.{now}
@@ -23,9 +23,15 @@ use Rattle.assembly.specs.Lent.{inBytes, AllLent, allLent}
 use Rattle.assembly.specs.Assembles.{Assembles}
 use Rattle.assembly.specs.Demand.{Demand}
 use Rattle.assembly.proofs.assemble as assemble
-use Rattle.ridge.specs.declared.LookupResult.{LookupResult}
-use Rattle.ridge.specs.Lookup.{Looked}
+use Rattle.lookups.specs.declared.LookupResult.{LookupResult}
+use Rattle.lookups.specs.Rules.{DeviceRule, OutcomesOf}
+use Rattle.lookups.specs.Lookup.{EqualsRule, Looked}
+use Rattle.ridge_rule.specs.Ridge.{ridge}
 use Rattle.ridge.proofs.lookup as lookup
+use Rattle.ridge_rule.proofs.outcomes as outcomes
+use Rattle.ridge.proofs.table as ridge-table
+use Rattle.portable_rule.specs.Portable.{portable}
+use Rattle.portable.proofs.table as portable-table
 use Rattle.planner.specs.declared.Leg.{Leg}
 use Rattle.planner.specs.Structs.{inStructs}
 use Rattle.planner.proofs.rollback_assemble_legs as assemble-legs
@@ -62,8 +68,12 @@ onLegs P κs (book, (run, (table, (slots, (plan, (legs, _)))))) r (_, (_, (table
     P (now book) (now run) (allLent (lent (now table) (now slots)) (now plan) (now legs)) r
     (allLent (lent (now table′) (now slots′)) (now plan′) (now legs′))
 
+-- the two devices' lookups take and give the same, and so do their rules' functions
 abbrev pub onLookup : (ℕ → ℕ → LookupResult → Type 0) → After lookup.ended
 onLookup P κs (state, (command, _)) r e = P state command r
+
+abbrev pub onOutcomes : (ℕ → ℕ → ℕ → Type 0) → After outcomes.ended
+onOutcomes P κs (state, (command, _)) w e = P state command w
 
 abbrev pub onReport : (List ℕ → List ℕ → List ℕ → ℕ → List ℕ → Type 0) → After report.ended
 onReport P κs (book, (run, (out, _))) r (_, (_, (out′, _))) = P (now book) (now run) (now out) r (now out′)
@@ -141,9 +151,28 @@ pub record LegsClaims (ρ : Routine) : Type 2 where
   pub says : Always assemble-legs.ended ρ (onLegs (Assembles inStructs))
   pub demand-three : Always assemble-legs.ended ρ (onLegs (Demand inStructs))
 
-pub record LookupClaims (ρ : Routine) : Type 2 where
-  -- 01: "A lookup with state over 63 or command over 15 returns 5, 0 and mask 0; else 0, 0 and the mask"
-  pub says : Always lookup.ended ρ (onLookup Looked)
+-- of each device's lookup
+pub record LookupClaims (d : DeviceRule) (ρ : Routine) : Type 2 where
+  -- 01: "A lookup with state over 63 or command over 15 returns 5, 0 and mask 0; else 0, 0 and the mask"; 02: "refusing as the ridge lookup does"
+  pub says : Always lookup.ended ρ (onLookup (Looked d))
+
+-- of each rule's function, whose masks the generator prints: the outcomes, for any numbers
+pub record RuleClaims (d : DeviceRule) (ρ : Routine) : Type 2 where
+  pub says : Always outcomes.ended ρ (onOutcomes (OutcomesOf d))
+
+-- of each device's constant table
+pub record ConstantTable (d : DeviceRule) (not-empty : ℕ) (table : List ℕ) : Type 0 where
+  pub equals-rule : EqualsRule d not-empty table
+  -- 02: "its output must be the constant tables": the generator prints for each entry a mask of the outcomes of state entry / m, command entry % m
+  pub generated : (entry w : ℕ) → entry < d .n * d .m → OutcomesOf d (entry / d .m) (entry % d .m) w → getD table entry 0 ≡ w
+
+-- 01: "The constant table of 1,024 masks equals this rule; 616 aren't empty."
+abbrev pub RidgeTable : Routine → Type 2
+RidgeTable ρ = Always ridge-table.ended ρ (λ κs a r e. ConstantTable ridge 616 r)
+
+-- 02: "its constant table of 384 masks", none of them empty
+abbrev pub PortableTable : Routine → Type 2
+PortableTable ρ = Always portable-table.ended ρ (λ κs a r e. ConstantTable portable 384 r)
 
 -- the program's text
 pub record ReportClaims (ρ : Routine) : Type 2 where

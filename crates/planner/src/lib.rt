@@ -1,8 +1,8 @@
 // The calls for C and Rust: the public calls by the names and the order that include/rollback.h has. Each keeps the promise of the call that it passes
 // on to.
 use assembly::Assembly;
+use lookups::LookupResult;
 use reader::Reading;
-use ridge::LookupResult;
 use writer::Writing;
 ghost use mathlib.Core.Path.{_≡_};
 ghost use Prim.Native.Nat.{_≤_, _<_};
@@ -16,7 +16,8 @@ ghost use Rattle.assembly.specs.Contract.{AssembleAs};
 ghost use Rattle.assembly.specs.Lent.{inBytes, allLent};
 ghost use Rattle.planner.specs.Structs.{inStructs};
 ghost use Rattle.planner.specs.Whole.{legAt, structsIn, WholeAs};
-ghost use Rattle.ridge.specs.Computed.{lookupOf};
+ghost use Rattle.ridge.specs.Computed.{ridgeLookup};
+ghost use Rattle.portable.specs.Computed.{portableLookup};
 
 #[no_mangle]
 pub extern "C" fn rollback_read(book: &[u8], table: &mut [u64], slots: &mut [u8]) -> Reading
@@ -66,9 +67,16 @@ pub extern "C" fn rollback_write(
 
 #[no_mangle]
 pub extern "C" fn rollback_ridge(state: u64, command: u64) -> LookupResult
-    ensures { λ r. ⌜ r ≡ lookupOf state command ⌝ }
+    ensures { λ r. ⌜ r ≡ ridgeLookup state command ⌝ }
 {
     ridge::lookup(state, command)
+}
+
+#[no_mangle]
+pub extern "C" fn rollback_portable(state: u64, command: u64) -> LookupResult
+    ensures { λ r. ⌜ r ≡ portableLookup state command ⌝ }
+{
+    portable::lookup(state, command)
 }
 
 // A leg: item number, upper point, lower point.

@@ -34,9 +34,9 @@ pub struct Input {
     pub write_slots: Vec<u8>,
     pub out: Vec<u8>,
 
-    /// For the ridge lookup.
-    pub state: u64,
-    pub command: u64,
+    /// For the lookups: a state and a command.
+    pub ridge: (u64, u64),
+    pub portable: (u64, u64),
 }
 
 /// The input of a seed, the same each time.
@@ -91,13 +91,8 @@ pub fn input(seed: u64) -> Input {
     let leg_structs = lent_length(rng, 32, short == 4);
 
     let writing = Writing::new(rng, &device, &items);
-    let (state, command) = match rng.below(10) {
-        0..=5 => (rng.below(64) as u64, rng.below(16) as u64),
-        6 => (rng.within(60, 70) as u64, rng.within(0, 20) as u64),
-        7 => (rng.below(70) as u64, rng.within(14, 18) as u64),
-        8 => (huge(rng), rng.below(16) as u64),
-        _ => (rng.below(64) as u64, huge(rng)),
-    };
+    let ridge = looked_up(rng, 64, 16);
+    let portable = looked_up(rng, 32, 12);
 
     let filler = &mut Rng::new(seed ^ 0x5eed_f111);
     Input {
@@ -117,8 +112,8 @@ pub fn input(seed: u64) -> Input {
         write_table: writing.table,
         write_slots: writing.slots,
         out: writing.out,
-        state,
-        command,
+        ridge,
+        portable,
     }
 }
 
@@ -129,6 +124,24 @@ fn lent_length(rng: &mut Rng, stated: usize, short: bool) -> usize {
         (true, _) => stated - 1,
         (false, 0) => stated + rng.within(1, 40),
         (false, _) => stated,
+    }
+}
+
+/// A state and a command for a device with so many of them: its own, about the
+/// last one, or huge.
+fn looked_up(rng: &mut Rng, states: usize, commands: usize) -> (u64, u64) {
+    match rng.below(10) {
+        0..=5 => (rng.below(states) as u64, rng.below(commands) as u64),
+        6 => (
+            rng.within(states - 4, states + 6) as u64,
+            rng.within(0, commands + 4) as u64,
+        ),
+        7 => (
+            rng.below(states + 6) as u64,
+            rng.within(commands - 2, commands + 2) as u64,
+        ),
+        8 => (huge(rng), rng.below(commands) as u64),
+        _ => (rng.below(states) as u64, huge(rng)),
     }
 }
 

@@ -66,12 +66,24 @@ pub struct WriteCase {
     pub out_after: Vec<u8>,
 }
 
-/// The ridge repeater's 1,024 masks by entry.
-pub fn ridge_masks() -> Vec<u64> {
-    answers!("ridge_vectors")
+/// The constant tables of the devices.
+#[derive(Clone, Debug)]
+pub struct Masks {
+    pub ridge: [u64; 1024],
+    pub portable: [u64; 384],
+}
+
+/// Each line a mask: the ridge repeater's by entry, then the portable relay's.
+pub fn masks() -> Masks {
+    let mut masks: Vec<u64> = answers!("tables")
         .lines()
         .map(|line| line.parse().unwrap())
-        .collect()
+        .collect();
+    let portable = masks.split_off(1024);
+    Masks {
+        ridge: masks.try_into().unwrap(),
+        portable: portable.try_into().unwrap(),
+    }
 }
 
 /// Each case: two-byte lengths of book and run, the book, the run. Each answer: four lines, namely

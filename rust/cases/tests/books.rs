@@ -1,7 +1,7 @@
-//! The books for measuring are what they are said to be, and a seed gives the
-//! same input each time.
+//! The books for measuring and docs/FORMAT.md's items for the portable relay
+//! are what they are said to be, and a seed gives the same input each time.
 
-use rollback_cases::device::{ridge_device, Device};
+use rollback_cases::device::{all, book_bytes, ridge_device, Device, Item};
 use rollback_cases::*;
 use rollback_plain::{assemble, check, Assembly, Reading};
 
@@ -84,7 +84,7 @@ fn branching() {
 
 #[test]
 fn ridge() {
-    assert_eq!(ridge_device().table, ridge_masks());
+    assert_eq!(ridge_device().table, masks().ridge);
     let book = ridge_book();
     assert_eq!(checked(&book), good(64, 16, 45));
     assert_eq!(
@@ -100,6 +100,28 @@ fn ridge() {
     assert_eq!(found.code, 0);
     assert!(found.legs >= 10, "{found:?}");
     println!("ridge: {} commands, {} legs", found.commands, found.legs);
+}
+
+#[test]
+fn portable() {
+    let device = Device {
+        n: 32,
+        m: 12,
+        table: masks().portable.to_vec(),
+        inverse: vec![],
+    };
+    let judged = |reverse: &[u8]| {
+        let item = Item {
+            forward: vec![5],
+            reverse: reverse.to_vec(),
+            phi: all(32),
+            psi: 1 << 17 | 1 << 25,
+        };
+        checked(&book_bytes(&device, &[item]))
+    };
+    assert_eq!(judged(&[11, 1, 10]), good(32, 12, 1));
+    let wrong = judged(&[1]);
+    assert_eq!((wrong.code, wrong.place), (8, 5_382));
 }
 
 #[test]

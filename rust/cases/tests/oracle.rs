@@ -3,7 +3,7 @@
 //! lists would be too long is skipped.
 
 use rollback_cases::{input, Input};
-use rollback_plain::{assemble, assemble_legs, check, read, ridge, write, Leg};
+use rollback_plain::{assemble, assemble_legs, check, portable, read, ridge, write, Leg, Lookup};
 use std::collections::BTreeSet;
 
 const SEEDS: u64 = 12_000;
@@ -553,9 +553,23 @@ fn expected_writing(input: &Input) -> (u64, u64, Vec<u8>) {
     (0, 0, book)
 }
 
+fn expected_lookup(masks: &[u64], commands: u64, (state, command): (u64, u64)) -> Lookup {
+    let states = masks.len() as u64 / commands;
+    let (code, mask) = if state < states && command < commands {
+        (0, masks[(state * commands + command) as usize])
+    } else {
+        (5, 0)
+    };
+    Lookup {
+        code,
+        place: 0,
+        mask,
+    }
+}
+
 #[test]
-fn writing_and_ridge() {
-    let masks = rollback_cases::ridge_masks();
+fn writing_and_lookups() {
+    let masks = rollback_cases::masks();
     let mut codes = [0; 12];
     for seed in 0..SEEDS {
         let input = input(seed);
@@ -574,19 +588,13 @@ fn writing_and_ridge() {
         assert!(out == over(&input.out, &book), "output, seed {seed}");
         codes[code as usize] += 1;
 
-        let inside = input.state < 64 && input.command < 16;
-        let mask = if inside {
-            masks[(input.state * 16 + input.command) as usize]
-        } else {
-            0
-        };
-        let found = ridge(input.state, input.command);
-        let code = if inside { 0 } else { 5 };
-        assert_eq!(
-            (found.code, found.place, found.mask),
-            (code, 0, mask),
-            "seed {seed}"
-        );
+        let expected = expected_lookup(&masks.ridge, 16, input.ridge);
+        let (state, command) = input.ridge;
+        assert_eq!(ridge(state, command), expected, "ridge, seed {seed}");
+
+        let expected = expected_lookup(&masks.portable, 12, input.portable);
+        let (state, command) = input.portable;
+        assert_eq!(portable(state, command), expected, "portable, seed {seed}");
     }
     println!("writing: codes {codes:?}");
     assert!(

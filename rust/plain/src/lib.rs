@@ -1,4 +1,4 @@
-//! Books, runs and roll-back plans as in docs/FORMAT.md, written from the paper behind it alone.
+//! Books, runs and roll-back plans as in docs/FORMAT.md, written from the papers behind it alone.
 //!
 //! Nothing is allocated: the caller lends every buffer. A refusal is a code
 //! and a place; code 0 is done.
@@ -7,6 +7,8 @@
 
 mod accept;
 mod assemble;
+mod lookup;
+mod portable;
 mod read;
 mod ridge;
 mod run;
@@ -15,6 +17,7 @@ mod slot;
 mod write;
 
 pub use assemble::{assemble, assemble_legs};
+pub use portable::portable;
 pub use read::{check, read};
 pub use ridge::ridge;
 pub use write::write;
@@ -62,7 +65,7 @@ pub struct Writing {
     pub length: u64,
 }
 
-/// What a ridge lookup answers.
+/// What a lookup answers.
 #[derive(Clone, Copy, Debug, PartialEq, Eq)]
 pub struct Lookup {
     pub code: u64,

@@ -1,5 +1,6 @@
 //! The ridge repeater: 64 states, 16 commands.
 
+use crate::lookup::{lookup, masks};
 use crate::Lookup;
 
 const STANDBY: u64 = 0;
@@ -7,30 +8,11 @@ const RELAY: u64 = 1;
 const BEACON: u64 = 2;
 const LOCKED: u64 = 3;
 
-/// The 1,024 masks, entry state × 16 + command.
-static MASKS: [u64; 1024] = {
-    let mut masks = [0; 1024];
-    let mut entry = 0;
-    while entry < 1024 {
-        masks[entry] = rule(entry as u64 / 16, entry as u64 % 16);
-        entry += 1;
-    }
-    masks
-};
+static MASKS: [[u64; 16]; 64] = masks!(rule, 64, 16);
 
+#[inline]
 pub fn ridge(state: u64, command: u64) -> Lookup {
-    if state > 63 || command > 15 {
-        return Lookup {
-            code: 5,
-            place: 0,
-            mask: 0,
-        };
-    }
-    Lookup {
-        code: 0,
-        place: 0,
-        mask: MASKS[(state * 16 + command) as usize],
-    }
+    lookup(&MASKS, state, command)
 }
 
 const fn rule(state: u64, command: u64) -> u64 {

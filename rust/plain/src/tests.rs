@@ -1,4 +1,5 @@
-//! The marked twelve cases on the small device Q, and the ridge's facts.
+//! The marked twelve cases on the small device Q, and facts of the two
+//! devices with a constant table.
 
 use super::*;
 
@@ -218,34 +219,64 @@ fn q_is_written_as_read() {
     assert!(out[225..].iter().all(|&byte| byte == 9));
 }
 
-#[test]
-fn ridge_facts() {
-    let filled = (0..64)
-        .flat_map(|state| (0..16).map(move |command| ridge(state, command)))
-        .filter(|found| found.mask != 0);
-    assert_eq!(filled.count(), 616);
-    assert_eq!(
-        ridge(0, 13),
-        Lookup {
-            code: 0,
-            place: 0,
-            mask: 15
+fn found(mask: u64) -> Lookup {
+    Lookup {
+        code: 0,
+        place: 0,
+        mask,
+    }
+}
+
+/// How many masks of a device have no state, one, two and so on.
+fn sizes(lookup: fn(u64, u64) -> Lookup, states: u64, commands: u64) -> [u64; 5] {
+    let mut sizes = [0; 5];
+    for state in 0..states {
+        for command in 0..commands {
+            let looked = lookup(state, command);
+            assert_eq!((looked.code, looked.place), (0, 0));
+            sizes[looked.mask.count_ones() as usize] += 1;
         }
-    );
-    assert_eq!(
-        ridge(16, 2),
-        Lookup {
-            code: 0,
-            place: 0,
-            mask: 327_680
-        }
-    );
+    }
+    sizes
+}
+
+fn refuses_from(lookup: fn(u64, u64) -> Lookup, states: u64, commands: u64) {
     let outside = Lookup {
         code: 5,
         place: 0,
         mask: 0,
     };
-    for (state, command) in [(64, 0), (0, 16), (u64::MAX, 0), (0, u64::MAX), (1 << 32, 0)] {
-        assert_eq!(ridge(state, command), outside);
+    let far = [1 << 32, u64::MAX];
+    for state in [states, states + 1].into_iter().chain(far) {
+        assert_eq!(lookup(state, 0), outside);
+        assert_eq!(lookup(state, commands), outside);
     }
+    for command in [commands, commands + 1].into_iter().chain(far) {
+        assert_eq!(lookup(0, command), outside);
+        assert_eq!(lookup(states - 1, command), outside);
+    }
+}
+
+#[test]
+fn ridge_facts() {
+    let sizes = sizes(ridge, 64, 16);
+    assert_eq!(sizes[1..].iter().sum::<u64>(), 616);
+    assert_eq!(ridge(0, 13), found(15));
+    assert_eq!(ridge(16, 2), found(327_680));
+    refuses_from(ridge, 64, 16);
+}
+
+#[test]
+fn portable_facts() {
+    // Two outcomes: the 16 states in relay, the 7 channels that aren't the present one.
+    assert_eq!(sizes(portable, 32, 12), [0, 384 - 112, 112, 0, 0]);
+    // From channel 3, power 1, in standby and in relay.
+    assert_eq!(portable(11, 6), found(1 << 14));
+    assert_eq!(portable(27, 6), found(1 << 27 | 1 << 30));
+    assert_eq!(portable(27, 3), found(1 << 27));
+    assert_eq!(portable(27, 8), found(1 << 19));
+    assert_eq!(portable(11, 9), found(1 << 11));
+    assert_eq!(portable(11, 10), found(1 << 27));
+    assert_eq!(portable(27, 11), found(1 << 11));
+    refuses_from(portable, 32, 12);
 }

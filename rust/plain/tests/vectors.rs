@@ -1,20 +1,27 @@
 //! Every case that a second program has answered.
 
-use rollback_cases::{assemble_cases, book_cases, ridge_masks, write_cases};
-use rollback_plain::{assemble, assemble_legs, check, read, ridge, write, Leg};
+use rollback_cases::{assemble_cases, book_cases, masks, write_cases};
+use rollback_plain::{assemble, assemble_legs, check, portable, read, ridge, write, Leg, Lookup};
 
-#[test]
-fn ridge_masks_are_the_same() {
-    let masks = ridge_masks();
-    assert_eq!(masks.len(), 1024);
-    for (entry, &mask) in (0..).zip(&masks) {
-        let found = ridge(entry / 16, entry % 16);
+fn finds(lookup: fn(u64, u64) -> Lookup, commands: u64, masks: &[u64]) {
+    for (entry, &mask) in (0..).zip(masks) {
+        let found = lookup(entry / commands, entry % commands);
         assert_eq!(
             (found.code, found.place, found.mask),
             (0, 0, mask),
             "entry {entry}"
         );
     }
+}
+
+#[test]
+fn ridge_masks_are_the_same() {
+    finds(ridge, 16, &masks().ridge);
+}
+
+#[test]
+fn portable_masks_are_the_same() {
+    finds(portable, 12, &masks().portable);
 }
 
 #[test]

@@ -1,0 +1,4 @@
+pub mod Rules
+pub mod Lookup
+pub mod Figures
+pub mod Computed

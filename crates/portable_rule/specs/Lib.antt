@@ -1,0 +1,3 @@
+pub mod Portable
+pub mod Figures
+pub mod Computed

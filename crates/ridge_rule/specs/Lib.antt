@@ -1,0 +1,3 @@
+pub mod Ridge
+pub mod Figures
+pub mod Computed

@@ -108,7 +108,10 @@ cp "$q" "$data/run.bin" "$work/in"
     byte "$q" 39 1 >"$work/in/6-rising"
     head -c 6 "$q" >"$work/in/7-items"
     for i in $(seq 65); do tail -c +179 "$q" | head -c 23; done >>"$work/in/7-items"
-    byte "$q" 145 3 >"$work/in/8-accepted"
+    byte "$q" 145 3 >"$work/in/8-stays"
+    byte "$q" 137 1 >"$work/in/12-phi"
+    byte "$q" 145 0 >"$work/in/12-psi"
+    byte "$q" 217 6 >"$work/in/12-stuck"
 )
 printf '\11\0\4\0\0\0\0\0\0\0\0\0\0' >"$work/in/run-10"
 printf '\22\0\4\0\1\1\7\0\0\0\0\0\0\0\7\0\0\0\0\0\0\0' >"$work/in/run-11"
@@ -136,7 +139,7 @@ if command -v cargo >/dev/null; then
     try 0 "$in/book.bin" "$in/run.bin"
     try 0 "$in/book.bin" "$in/run-q8"
     try 0 "$in/book.bin" "$in/run-q11"
-    for book in "$in"/[2-8]-*; do
+    for book in "$in"/[0-9]*-*; do
         try 1 "$book" "$in/run.bin"
         code=${book##*/}
         grep -q "(code ${code%%-*})" "$work/c.err"

@@ -71,7 +71,9 @@ int main(void) {
     expect(rollback_message(ROLLBACK_E_DONE), "done");
     expect(rollback_message(ROLLBACK_E_TOO_MANY_ITEMS), "a book has at most 64 items");
     expect(rollback_message(ROLLBACK_E_NO_CHAIN), "no items of the book lead from the run's end back to its start");
-    expect(rollback_message(ROLLBACK_E_NO_CHAIN + 1), "a code that this header doesn't know");
+    expect(rollback_message(ROLLBACK_E_NOT_EFFECTIVE),
+           "the item can never be used: its forward commands lead from no start in psi to an end in phi");
+    expect(rollback_message(ROLLBACK_E_NOT_EFFECTIVE + 1), "a code that this header doesn't know");
     expect_record(small, sizeof small, 0, "device", 0);
     expect_record(small, sizeof small, 6, "move", 0);
     expect_record(small, sizeof small, 20, "record", 2);

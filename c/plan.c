@@ -21,7 +21,8 @@ static void print_row(const uint8_t *commands, uint64_t count) {
 /* What is wrong, and in which file and record. */
 static void print_refusal(char **names, file book, const rollback_assembly *r) {
     size_t point;
-    if (r->code >= ROLLBACK_E_CUT_OFF && r->code <= ROLLBACK_E_NOT_ACCEPTED) {
+    if ((r->code >= ROLLBACK_E_CUT_OFF && r->code <= ROLLBACK_E_NOT_REVERSE_PLAN) ||
+        r->code == ROLLBACK_E_NOT_EFFECTIVE) {
         rollback_record record = rollback_record_at(book.bytes, book.length, r->place);
         fprintf(stderr, "%s: %s %" PRIu64 " (%s%" PRIu64 "): ", names[1], record.name, record.number,
                 strcmp(record.name, "record") == 0 ? "at " : "record at ", r->place);

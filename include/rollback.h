@@ -30,9 +30,9 @@ extern "C" {
 #endif
 
 /* Of this header; the Rust crate has the same. */
-#define ROLLBACK_VERSION "0.3.0"
+#define ROLLBACK_VERSION "0.4.0"
 #define ROLLBACK_VERSION_MAJOR 0
-#define ROLLBACK_VERSION_MINOR 3
+#define ROLLBACK_VERSION_MINOR 4
 #define ROLLBACK_VERSION_PATCH 0
 
 /* The least lengths of lent buffers, in elements. A shorter one is refused with code 1. */
@@ -68,23 +68,25 @@ extern "C" {
 #define ROLLBACK_NONE 65535
 
 /*
- * The codes. The place is the offset of the faulty record's first byte for 2 to 8 in a book, and 0 for
- * the others; rollback_write has places of its own. The order of judging is 1; then, record by record,
- * 2, 3, 7, 4, 5, 6, the first faulty record deciding; then 8, 9, 10, 11.
+ * The codes. The place is the offset of the faulty record's first byte for 2 to 8 and 12 in a book, and 0
+ * for the others; rollback_write has places of its own. The order of judging is 1; then, record by record,
+ * 2, 3, 7, 4, 5, 6, the first faulty record deciding; then, item by item, 8 or 12, the first wrong item
+ * deciding; then 9, 10, 11.
  */
 enum {
     ROLLBACK_E_DONE = 0,
-    ROLLBACK_E_SHORT_BUFFER = 1,   /* a lent buffer is shorter than stated */
-    ROLLBACK_E_CUT_OFF = 2,        /* under 4 bytes of a record are left, or its body is cut off; an empty book */
-    ROLLBACK_E_KIND = 3,           /* a kind unknown in a book, or out of its order */
-    ROLLBACK_E_LENGTH = 4,         /* a body's length is not that of its kind */
-    ROLLBACK_E_FIELD = 5,          /* a field is outside its range */
-    ROLLBACK_E_NOT_RISING = 6,     /* a move doesn't rise */
-    ROLLBACK_E_TOO_MANY_ITEMS = 7, /* a 65th item */
-    ROLLBACK_E_NOT_ACCEPTED = 8,   /* an item is not accepted; the first such one */
-    ROLLBACK_E_RUN = 9,            /* the run isn't exactly one record, or a command or mask is outside m or n */
-    ROLLBACK_E_NO_HISTORY = 10,    /* nothing can have happened that fits the run */
-    ROLLBACK_E_NO_CHAIN = 11       /* no items lead from the run's end back to its start */
+    ROLLBACK_E_SHORT_BUFFER = 1,     /* a lent buffer is shorter than stated */
+    ROLLBACK_E_CUT_OFF = 2,          /* under 4 bytes of a record are left, or its body is cut off; an empty book */
+    ROLLBACK_E_KIND = 3,             /* a kind unknown in a book, or out of its order */
+    ROLLBACK_E_LENGTH = 4,           /* a body's length is not that of its kind */
+    ROLLBACK_E_FIELD = 5,            /* a field is outside its range */
+    ROLLBACK_E_NOT_RISING = 6,       /* a move doesn't rise */
+    ROLLBACK_E_TOO_MANY_ITEMS = 7,   /* a 65th item */
+    ROLLBACK_E_NOT_REVERSE_PLAN = 8, /* an item is no conditional reverse plan */
+    ROLLBACK_E_RUN = 9,              /* the run isn't exactly one record, or a command or mask is outside m or n */
+    ROLLBACK_E_NO_HISTORY = 10,      /* nothing can have happened that fits the run */
+    ROLLBACK_E_NO_CHAIN = 11,        /* no items lead from the run's end back to its start */
+    ROLLBACK_E_NOT_EFFECTIVE = 12    /* an item can never be used: a conditional reverse plan, but not effective */
 };
 
 /* From reading and checking: n states, m commands, the number of items; all three 0 on a refusal. */
@@ -131,11 +133,13 @@ rollback_reading rollback_read(
     uint8_t *slots, size_t slots_len);
 
 /*
- * Reads a book and checks that every item is accepted: from wherever its forward commands can lead to in
- * phi from a start in psi, its reverse commands are never stuck and always end in that start.
+ * Reads a book and checks that every item is accepted, that is, a conditional reverse plan (else 8): from
+ * wherever its forward commands can lead to in phi from a start in psi, its reverse commands are never
+ * stuck and always end in that start; and effective (else 12): its forward commands can lead from some
+ * start in psi to an end in phi.
  *
- * Takes the book; lends table and slots. Codes: 0 to 8.
- * 0, 8     table and slots as after reading with code 0; with 8 the three numbers are 0 all the same.
+ * Takes the book; lends table and slots. Codes: 0 to 8, 12.
+ * 0, 8, 12 table and slots as after reading with code 0; with 8 and 12 the three numbers are 0 all the same.
  * 1 to 7   both untouched.
  */
 rollback_reading rollback_check(
@@ -147,11 +151,11 @@ rollback_reading rollback_check(
  * Checks a book and assembles from its items the plan that undoes a run: the chain with fewest commands;
  * among equals, the one with the lower item number at the first difference.
  *
- * Takes book and run; lends table, slots, plan and legs, these as bytes. Codes: 0 to 11.
+ * Takes book and run; lends table, slots, plan and legs, these as bytes. Codes: 0 to 12.
  * 0        table and slots as after reading; plan: its first `commands` bytes are the commands to send,
  *          in order; legs: its first 3 * `legs` bytes are the legs in that order; the other bytes stay.
  * 1 to 7   all untouched.
- * 8 to 11  table and slots as after reading; plan and legs untouched.
+ * 8 to 12  table and slots as after reading; plan and legs untouched.
  */
 rollback_assembly rollback_assemble(
     const uint8_t *book, size_t book_len,

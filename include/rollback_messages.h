@@ -29,7 +29,8 @@ ROLLBACK_INLINE const char *rollback_message(uint64_t code) {
         "the reverse commands can get stuck, or end elsewhere than in the start",
         "this is not one record of a run, or it has a command or state that the device lacks",
         "nothing that the device can do fits what was sent and heard",
-        "no items of the book lead from the run's end back to its start"};
+        "no items of the book lead from the run's end back to its start",
+        "the item can never be used: its forward commands lead from no start in psi to an end in phi"};
     return code < sizeof messages / sizeof messages[0] ? messages[code] : "a code that this header doesn't know";
 }
 

@@ -96,7 +96,7 @@ fn main() -> Result<(), Box<dyn Error>> {
 
     let wrong = book(&items)?;
     match Book::check(&wrong) {
-        Err(fault @ Fault::NotAccepted(_)) => println!("Refused: {fault}"),
+        Err(fault @ Fault::NotReversePlan(_)) => println!("Refused: {fault}"),
         other => return Err(format!("item 2 should be refused: {other:?}").into()),
     }
     println!("  In relay a channel command may not take: after 1 the repeater may still be on 2.");

@@ -72,10 +72,12 @@ impl Book {
         Book::by(calls::read, bytes)
     }
 
-    /// Reads a book and checks that every item is accepted.
+    /// Reads a book and checks that every item is accepted: from every end in phi that its forward
+    /// commands can lead to from a start in psi, the reverse ones lead back to that start, and there
+    /// is such a start with such an end.
     ///
     /// # Errors
-    /// Codes 2 to 7: the bytes are no book. Code 8: an item is not accepted.
+    /// Codes 2 to 7: the bytes are no book. Codes 8 and 12: an item is not accepted.
     ///
     /// ```
     /// use rollback::{Book, Fault};

@@ -153,7 +153,7 @@ pub fn read(book: &[u8], table: &mut [u64], slots: &mut [u8]) -> Reading {
     }
 }
 
-/// Reads a book and checks its items. Codes 0 to 8.
+/// Reads a book and checks its items. Codes 0 to 8, 12.
 #[must_use]
 #[rustfmt::skip]
 pub fn check(book: &[u8], table: &mut [u64], slots: &mut [u8]) -> Reading {
@@ -166,7 +166,7 @@ pub fn check(book: &[u8], table: &mut [u64], slots: &mut [u8]) -> Reading {
     }
 }
 
-/// Checks a book and assembles the plan that undoes a run, its legs as bytes. Codes 0 to 11.
+/// Checks a book and assembles the plan that undoes a run, its legs as bytes. Codes 0 to 12.
 #[must_use]
 #[rustfmt::skip]
 pub fn assemble(

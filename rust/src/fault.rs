@@ -4,7 +4,7 @@ use core::fmt;
 use crate::calls::POINTS_LEN;
 use crate::{record_at, Record, NONE};
 
-/// Why a book or a run was refused: a variant for each code, in order, from 1 to 11.
+/// Why a book or a run was refused: a variant for each code, in order, from 1 to 12.
 ///
 /// Printed, it says where and what: `item 1 (record at 129): a field is outside its range (code 5)`.
 #[derive(Clone, Copy, Debug, PartialEq, Eq)]
@@ -24,8 +24,8 @@ pub enum Fault {
     NotRising(Record),
     /// 7: a 65th item.
     TooManyItems(Record),
-    /// 8: an item is not accepted, the first such one.
-    NotAccepted(Record),
+    /// 8: an item is no conditional reverse plan, the first wrong one.
+    NotReversePlan(Record),
     /// 9: the run isn't exactly one record, or a command or mask is outside m or n.
     Run,
     /// 10: nothing can have happened that fits the run.
@@ -35,6 +35,8 @@ pub enum Fault {
         /// The fewest commands from each point down to 0, or [`NONE`].
         fewest: [u16; POINTS_LEN],
     },
+    /// 12: an item is a conditional reverse plan, but not effective; the first wrong one.
+    NotEffective(Record),
     /// A code that this crate doesn't know: the archive is another version's.
     Unknown {
         /// The code.
@@ -58,10 +60,11 @@ impl Fault {
             5 => Fault::Field(record()),
             6 => Fault::NotRising(record()),
             7 => Fault::TooManyItems(record()),
-            8 => Fault::NotAccepted(record()),
+            8 => Fault::NotReversePlan(record()),
             9 => Fault::Run,
             10 => Fault::NoHistory,
             11 => Fault::NoChain { fewest },
+            12 => Fault::NotEffective(record()),
             _ => Fault::Unknown { code, place },
         }
     }
@@ -77,10 +80,11 @@ impl Fault {
             Fault::Field(_) => 5,
             Fault::NotRising(_) => 6,
             Fault::TooManyItems(_) => 7,
-            Fault::NotAccepted(_) => 8,
+            Fault::NotReversePlan(_) => 8,
             Fault::Run => 9,
             Fault::NoHistory => 10,
             Fault::NoChain { .. } => 11,
+            Fault::NotEffective(_) => 12,
             Fault::Unknown { code, .. } => code,
         }
     }
@@ -95,7 +99,8 @@ impl Fault {
             | Fault::Field(record)
             | Fault::NotRising(record)
             | Fault::TooManyItems(record)
-            | Fault::NotAccepted(record) => Some(record),
+            | Fault::NotReversePlan(record)
+            | Fault::NotEffective(record) => Some(record),
             _ => None,
         }
     }
@@ -117,7 +122,7 @@ impl fmt::Display for Fault {
                 "the move doesn't rise: by state, then command, it must come after the move before it"
             }
             Fault::TooManyItems(_) => "a book has at most 64 items",
-            Fault::NotAccepted(_) => {
+            Fault::NotReversePlan(_) => {
                 "the reverse commands can get stuck, or end elsewhere than in the start"
             }
             Fault::Run => {
@@ -125,6 +130,9 @@ impl fmt::Display for Fault {
             }
             Fault::NoHistory => "nothing that the device can do fits what was sent and heard",
             Fault::NoChain { .. } => "no items of the book lead from the run's end back to its start",
+            Fault::NotEffective(_) => {
+                "the item can never be used: its forward commands lead from no start in psi to an end in phi"
+            }
             Fault::Unknown { .. } => "a code that this crate doesn't know",
         };
         write!(f, "{text} (code {})", self.code())?;

@@ -83,8 +83,8 @@ impl fmt::Display for Plan {
 /// commands; among equals, the one with the lower item number at the first difference.
 ///
 /// # Errors
-/// Codes 2 to 8: the book is refused. Codes 9 to 11: the bytes are no run of its device, or nothing
-/// in the book undoes it.
+/// Codes 2 to 8 and 12: the book is refused. Codes 9 to 11: the bytes are no run of its device, or
+/// nothing in the book undoes it.
 pub fn plan(book: &[u8], run: &[u8]) -> Result<Plan, Fault> {
     let mut table = vec![0; calls::TABLE_LEN];
     let mut slots = vec![0; calls::SLOTS_LEN];

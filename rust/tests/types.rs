@@ -155,6 +155,13 @@ fn faults_have_words() {
         rollback::plan(&book, &q5_run()).unwrap_err().to_string(),
         "item 1 (record at 129): the reverse commands can get stuck, or end elsewhere than in the start (code 8)"
     );
+    // Command 2 can't be carried out in states 1 and 2: item 4 with psi 6.
+    let mut book = q_book();
+    book[217] = 6;
+    assert_eq!(
+        rollback::plan(&book, &q5_run()).unwrap_err().to_string(),
+        "item 4 (record at 201): the item can never be used: its forward commands lead from no start in psi to an end in phi (code 12)"
+    );
     // Q9: 1; 7 7.
     assert_eq!(
         rollback::plan(&q_book(), &rollback::run(&[1], &[7, 7])).unwrap_err().to_string(),

@@ -34,7 +34,7 @@ pub record Left {E : Type 0} (form : LegForm E) (a : Answer) (room : Room E) (re
 pub data Assembles {E : Type 0} (form : LegForm E) (book run : List ℕ) (l : AllLent E) (result : Assembly) (l′ : AllLent E) : Type 0 where
   -- "1, 0: a lent buffer shorter than stated; all untouched"
   short : (LongEnough (allSizes form l) → ⊥) → result ≡ refusal 1 0 → l′ ≡ l → Assembles form book run l result l′
-  -- "then .. 8": what checking refuses, with its code and place, and table and slots as checking leaves them
+  -- "then .. 8", with 02 8 or 12: what checking refuses, with its code and place, and table and slots as checking leaves them
   unaccepted : LongEnough (allSizes form l) → {c : Reading} → Checks book (l .read) c (l′ .read) → (c .code ≡ 0 → ⊥)
       → result ≡ refusal (c .code) (c .place) → l′ .room ≡ l .room → Assembles form book run l result l′
   -- "9, 0: run isn't exactly one record as above, or a command or mask is outside m or n; table and slots read"

@@ -1,14 +1,16 @@
--- The joint table of the twelve cases, of bytes: Q's 225 bytes and the runs as bytes, and the leg bytes as literals. Assumes nothing: these are
--- definitions.
-use mathlib.Core.List.{List, [], _∷_}
+-- The joint table of the twelve cases, of bytes: Q's 225 bytes and the runs as bytes, and the leg bytes as literals; and books that are refused.
+-- Assumes nothing: these are definitions.
+use mathlib.Core.Path.{_≡_}
+use mathlib.Core.List.{List, [], _∷_, _++_}
 use lib.ListN.{replicate}
 use Prim.Native.Nat.{ℕ}
 use Rattle.base.specs.Lists.{Written}
 use Rattle.base.specs.Sizes.{LongEnough}
 use Rattle.reversal.specs.Runs.{Run}
 use Rattle.reversal.specs.Answers.{Answer, refused}
-use Rattle.reversal.specs.Twelve.{run, leg, found}
+use Rattle.reversal.specs.Twelve.{itemQ3, itemQ4, run, leg, found}
 use Rattle.book.specs.Example.{bytesQ}
+use Rattle.checker.specs.Cases.{recorded}
 use Rattle.runs.specs.RunBytes.{runBytes}
 use Rattle.assembly.specs.declared.Assembly.{Assembly}
 use Rattle.assembly.specs.Lent.{LegForm, inBytes, AllLent, allSizes}
@@ -19,7 +21,15 @@ pub record BytesGive {E : Type 0} (form : LegForm E) (u : Run) (a : Answer) : Ty
   pub left : {l : AllLent E} {r : Assembly} {l′ : AllLent E} → Assembles form bytesQ (runBytes u) l r l′ → LongEnough (allSizes form l)
       → Left form a (l .room) r (l′ .room)
 
+-- in buffers that are long enough, this book is refused whatever the run: 9, 10 and 11 come after 8 and 12
+pub record BookRefused {E : Type 0} (form : LegForm E) (book : List ℕ) (code place : ℕ) : Type 0 where
+  pub left : {run : List ℕ} {l : AllLent E} {r : Assembly} {l′ : AllLent E} → Assembles form book run l r l′ → LongEnough (allSizes form l)
+      → (r ≡ record { code = code; place = place; commands = 0; legs = 0; fewest = replicate 33 65535 }) × (l′ .room ≡ l .room)
+
 pub record Runs {E : Type 0} (form : LegForm E) : Type 0 where
+  -- Q's book with the item of Q3, and with that of Q4, behind its items
+  pub q3 : BookRefused form (bytesQ ++ recorded itemQ3) 8 225
+  pub q4 : BookRefused form (bytesQ ++ recorded itemQ4) 12 225
   pub q5 : BytesGive form (run (2 ∷ 1 ∷ []) (7 ∷ 7 ∷ 7 ∷ [])) (found (0 ∷ []) (leg 2 2 0 ∷ []) 1 1 (0 ∷ 1 ∷ 1 ∷ []) 30)
   pub q6 : BytesGive form (run (2 ∷ 1 ∷ []) (7 ∷ 2 ∷ 7 ∷ [])) (found (0 ∷ []) (leg 2 2 0 ∷ []) 1 1 (0 ∷ 1 ∷ 1 ∷ []) 30)
   pub q7 : BytesGive form (run (2 ∷ []) (7 ∷ 7 ∷ [])) (found (0 ∷ []) (leg 4 1 0 ∷ []) 1 1 (0 ∷ 1 ∷ []) 31)

@@ -1,5 +1,5 @@
 -- Q's book as bytes: its 225 bytes are accepted, and read as the device and items of the joint table; with the item of Q2 in place of item 1 it is
--- refused at that item's record, with the item of Q3 behind it at its end. Assumes nothing.
+-- refused at that item's record, with those of Q3 and Q4 behind it at the first of them. Assumes nothing.
 use mathlib.Core.Path.{_≡_, refl, sym, subst}
 use mathlib.Core.Bool.{true}
 use mathlib.Core.List.{List, [], _∷_, _++_}
@@ -9,13 +9,13 @@ use lib.ListN.{length, take, drop}
 use Rattle.base.specs.Lists.{Each}
 use Rattle.base.specs.Tests.{pick, both, imp}
 use Rattle.base.specs.Compare.{less, atMost, same, differ}
-use Rattle.base.specs.Bounded.{all, union, seek}
+use Rattle.base.specs.Bounded.{all, any, union, seek}
 use Rattle.base.specs.Masks.{member, clearFrom}
 use Rattle.octets.specs.Le.{bytesLe}
 use Rattle.reversal.specs.Device.{Device}
-use Rattle.reversal.specs.Reversal.{Accepted}
-use Rattle.reversal.specs.Twelve.{made, itemsQ}
-use Rattle.reversal.specs.Computed.Sets.{after, able, reach, runsBack, ends, startOk, accepts}
+use Rattle.reversal.specs.Reversal.{Item, Accepted}
+use Rattle.reversal.specs.Twelve.{made, itemsQ, itemQ2, itemQ3, itemQ4}
+use Rattle.reversal.specs.Computed.Sets.{after, able, reach, runsBack, ends, startOk, reverses, startUsed, effective, accepts}
 use Rattle.reversal.proofs.Cases.{twelve}
 use Rattle.book.specs.Book.{Book, outcomeOf, frame}
 use Rattle.book.specs.Parse.{parse, cutAfter, scan, kindOf, step, moveOf, itemOf, movesIn, itemsIn}
@@ -27,9 +27,10 @@ use Rattle.book.proofs.Reading.{parse-fine}
 use Rattle.book.proofs.Example.{bytes-bookQ, allowed-bookQ, device-bookQ}
 use Rattle.reader.specs.Reads.{refusal}
 use Rattle.reader.proofs.Cases.{bytes-Q}
+use Rattle.checker.specs.Reasons.{codeOf}
 use Rattle.checker.specs.Checks.{AcceptedBook, placeOf}
 use Rattle.checker.specs.Cases.{Judges, QChecked}
-use Rattle.checker.specs.Contract.{wrongItem}
+use Rattle.checker.specs.Contract.{wrongItem, reasonFor, reasonIn}
 use Rattle.checker.proofs.Exactly.{first-wrong}
 use Rattle.checker.proofs.Unique.{checked-fine, checked-wrong}
 
@@ -38,24 +39,30 @@ accepted-Q =
     record { allowed = allowed-bookQ; bytes = bytes-bookQ; accepted = subst (λ (d : Device). Each (Accepted d) itemsQ) (sym device-bookQ) (twelve .q1) }
 
 -- bytes that parse as a book whose item i is the first that the test turns down
-refused-at : (s : List ℕ) (b : Book) → allBelow 256 s ≡ true → parse s ≡ Ok b → wrongItem b < length (b .items) → Judges s (refusal 8 (placeOf b (wrongItem b)))
+refused-at : (s : List ℕ) (b : Book) → allBelow 256 s ≡ true → parse s ≡ Ok b → wrongItem b < length (b .items)
+    → Judges s (refusal (codeOf (reasonIn b)) (placeOf b (wrongItem b)))
 refused-at s b h e l =
     let bytes = all-on 256 s h in
     let (a, same) = parse-fine s b bytes e in
     record { result = λ x long. checked-wrong bytes x long a same (first-wrong b a l) .0 }
 
--- Q's book with the item of Q2 in place of item 1, whose record stands from 129 to 153, and with the item of Q3 behind its items
+-- Q's book with the item of Q2 in place of item 1, whose record stands from 129 to 153, and with others behind its items
 bookQ2 : Book
-bookQ2 = record { n = 3; m = 3; moves = bookQ .moves; items = take 1 (bookQ .items) ++ (made (1 ∷ []) (0 ∷ []) 7 3 ∷ drop 2 (bookQ .items)) }
+bookQ2 = record { n = 3; m = 3; moves = bookQ .moves; items = take 1 (bookQ .items) ++ (itemQ2 ∷ drop 2 (bookQ .items)) }
 
-bookQ3 : Book
-bookQ3 = record { n = 3; m = 3; moves = bookQ .moves; items = bookQ .items ++ (made (2 ∷ []) (2 ∷ []) 7 7 ∷ []) }
+longer : List Item → Book
+longer xs = record { n = 3; m = 3; moves = bookQ .moves; items = bookQ .items ++ xs }
 
 pub q-checked : QChecked
-unfolding pick both imp less atMost same differ all union seek member clearFrom bytesLe frame outcomeOf after able reach runsBack ends startOk accepts wrongItem parse cutAfter scan kindOf step deviceFine moveFine countsFine allBelow fieldsFine moveOf itemOf movesIn itemsIn bookQ2 bookQ3
+unfolding pick both imp less atMost same differ all any union seek member clearFrom bytesLe frame outcomeOf after able reach runsBack ends startOk reverses startUsed effective accepts wrongItem reasonFor parse cutAfter scan kindOf step deviceFine moveFine countsFine allBelow fieldsFine moveOf itemOf movesIn itemsIn bookQ2 longer
 q-checked =
     record {
       q1 = record { result = λ x long. checked-fine bytes-Q x long accepted-Q .0 };
       q2 = refused-at _ bookQ2 refl refl (lit< tt);
-      q3 = refused-at _ bookQ3 refl refl (lit< tt);
+      q3 = refused-at _ (longer (itemQ3 ∷ [])) refl refl (lit< tt);
+      q4 = refused-at _ (longer (itemQ4 ∷ [])) refl refl (lit< tt);
+      no-phi = refused-at _ (longer (made (1 ∷ []) (0 ∷ []) 0 1 ∷ [])) refl refl (lit< tt);
+      no-psi = refused-at _ (longer (made (1 ∷ []) (0 ∷ []) 7 0 ∷ [])) refl refl (lit< tt);
+      eight-first = refused-at _ (longer (itemQ3 ∷ itemQ4 ∷ [])) refl refl (lit< tt);
+      twelve-first = refused-at _ (longer (itemQ4 ∷ itemQ3 ∷ [])) refl refl (lit< tt);
     }

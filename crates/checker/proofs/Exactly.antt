@@ -1,7 +1,7 @@
--- The contract of checking gives what 01 says; the first item that the test turns down is the first that is no conditional reverse plan by
--- trajectories. Assumes nothing.
-use mathlib.Core.Path.{_≡_, ap, _∙_}
-use mathlib.Core.Bool.{true}
+-- The contract of checking gives what 01 and 02 say; the first item that the test turns down is the first that is not accepted by trajectories, and the
+-- reason is its own. Assumes nothing.
+use mathlib.Core.Path.{_≡_, refl, sym, ap, _∙_}
+use mathlib.Core.Bool.{Bool, true, false, false≢true}
 use mathlib.Core.Logic.{_↔_}
 use mathlib.Core.List.{List}
 use Prim.Native.Nat.{ℕ, _≤_, _<_}
@@ -9,17 +9,20 @@ use native.Mathlib.Omega.{arith}
 use native.Mathlib.Decide.{decLt}
 use lib.Dec.{T}
 use lib.ListN.{length}
+use Rattle.base.specs.Sets.{NoBitFrom}
 use Rattle.base.specs.Lists.{Each}
+use Rattle.base.specs.Tests.{pick, both}
 use Rattle.base.specs.Sizes.{LongEnough}
 use Rattle.base.specs.Shorter.{anyShort}
 use Rattle.base.proofs.Lists.{each-at, each-of}
 use Rattle.base.proofs.Sizes.{on-short}
 use Rattle.base.proofs.Tests.{T-true, true-T}
 use Rattle.base.proofs.Lowest.{Tells, fails, lowest-wrong, none-wrong as none-lowest, wrong-none}
-use Rattle.reversal.specs.Reversal.{AllowedItem, Accepted}
+use Rattle.reversal.specs.Device.{Device, Proper}
+use Rattle.reversal.specs.Reversal.{Item, AllowedItem, Accepted}
 use Rattle.reversal.specs.Chains.{absent, item}
-use Rattle.reversal.specs.Computed.Sets.{accepts}
-use Rattle.reversal.proofs.Reversals.{accepts↔}
+use Rattle.reversal.specs.Computed.Sets.{reverses, effective, accepts}
+use Rattle.reversal.proofs.Reversals.{reverses↔, effective↔, accepts↔}
 use Rattle.book.specs.Book.{Book, deviceOf, AllowedBook, bytesOf}
 use Rattle.book.specs.Lent.{Lent, sizes}
 use Rattle.book.specs.Parse.{parse}
@@ -33,35 +36,56 @@ use Rattle.reader.specs.Reads.{refusal, done}
 use Rattle.reader.specs.Reads as reads
 use Rattle.reader.proofs.Ways.{Way, by-short, by-fault, by-book, way, when-short, when-faulty, when-fine}
 use Rattle.reader.proofs.Exactly.{filled}
+use Rattle.checker.specs.declared.Reason.the-variants.{NoReversePlan, NotEffective}
 use Rattle.checker.specs.declared.Judgement.{Judgement}
-use Rattle.checker.specs.Checks.{placeOf, FirstWrong, Checks, unread, wrong, fine}
-use Rattle.checker.specs.Contract.{wrongItem, judgementOf, onJudgement, judgedBy, checkBy, CheckAs}
+use Rattle.checker.specs.Reasons.{codeOf, Due}
+use Rattle.checker.specs.Checks.{placeOf, WrongFor, Checks, unread, wrong, fine}
+use Rattle.checker.specs.Contract.{wrongItem, reasonFor, reasonIn, judgementOf, onJudgement, judgedBy, checkBy, CheckAs}
 use Rattle.checker.proofs.Judging.{one-wrong, all-accepted as none-turned-down}
 
 -- ---- the judgement of a book, by its test
 module _ (b : Book) where
   pub by-wrong : wrongItem b < length (b .items) → {A : Type 0} (refuse : ℕ → ℕ → A) (found : A)
-      → onJudgement (judgementOf b) refuse found ≡ refuse 8 (placeOf b (wrongItem b))
-  unfolding wrongItem
-  by-wrong h refuse found =
-      ap (λ (j : Judgement). onJudgement j refuse found)
-      (one-wrong b h (fails (λ i. accepts (deviceOf b) (item (b .items) i)) (length (b .items)) h))
+      → onJudgement (judgementOf b) refuse found ≡ refuse (codeOf (reasonIn b)) (placeOf b (wrongItem b))
+  by-wrong h refuse found = ap (λ (j : Judgement). onJudgement j refuse found) (one-wrong b h)
 
   pub by-none : length (b .items) ≤ wrongItem b → {A : Type 0} (refuse : ℕ → ℕ → A) (found : A) → onJudgement (judgementOf b) refuse found ≡ found
   by-none h refuse found = ap (λ (j : Judgement). onJudgement j refuse found) (none-turned-down b h)
 
 -- ---- by trajectories
+module _ (d : Device) (proper : Proper d) (x : Item) (starts : NoBitFrom (d .n) (x .psi)) where
+  reason-due : accepts d x ≡ false → Due (reasonFor d x) d x
+  unfolding accepts reasonFor both pick
+  reason-due = go (reverses d x) refl (effective d x) refl
+    where
+      go : (r : Bool) → reverses d x ≡ r → (f : Bool) → effective d x ≡ f → both r f ≡ false → Due (pick r NotEffective NoReversePlan) d x
+      go true p true q e = absurd (false≢true (sym e))
+      go true p false q e =
+          record {
+            reverse-plan = reverses↔ d proper x starts .0 (true-T (reverses d x) p);
+            not-effective = λ g. false≢true (sym q ∙ T-true (effective d x) (effective↔ d proper x starts .1 g));
+          }
+      go false p f q e = λ g. false≢true (sym p ∙ T-true (reverses d x) (reverses↔ d proper x starts .1 g))
+
 module _ (b : Book) (a : AllowedBook b) where
+  starts-states : (i : ℕ) → i < length (b .items) → NoBitFrom (b .n) (item (b .items) i .psi)
+  starts-states i l = each-at (AllowedItem (deviceOf b)) (b .items) (a .each-item) i absent l .psi-states
+
   accepted↔ : (i : ℕ) → i < length (b .items) → T (accepts (deviceOf b) (item (b .items) i)) ↔ Accepted (deviceOf b) (item (b .items) i)
-  accepted↔ i l =
-      accepts↔ (deviceOf b) (device-proper b a) (item (b .items) i) (each-at (AllowedItem (deviceOf b)) (b .items) (a .each-item) i absent l .psi-states)
+  accepted↔ i l = accepts↔ (deviceOf b) (device-proper b a) (item (b .items) i) (starts-states i l)
 
   tells : Tells (λ i. accepts (deviceOf b) (item (b .items) i)) (λ i. Accepted (deviceOf b) (item (b .items) i)) (length (b .items))
   tells = record { on = λ i l e. accepted↔ i l .0 (true-T _ e); of = λ i l p. T-true _ (accepted↔ i l .1 p) }
 
-  pub first-wrong : wrongItem b < length (b .items) → FirstWrong b (wrongItem b)
+  pub first-wrong : wrongItem b < length (b .items) → WrongFor b (wrongItem b) (reasonIn b)
   unfolding wrongItem
-  first-wrong h = lowest-wrong _ (length (b .items)) tells h
+  first-wrong h =
+      record {
+        first = lowest-wrong _ (length (b .items)) tells h;
+        due =
+            reason-due (deviceOf b) (device-proper b a) (item (b .items) (wrongItem b)) (starts-states (wrongItem b) h)
+            (fails (λ i. accepts (deviceOf b) (item (b .items) i)) (length (b .items)) h);
+      }
 
   pub all-accepted : length (b .items) ≤ wrongItem b → Each (Accepted (deviceOf b)) (b .items)
   unfolding wrongItem
@@ -86,7 +110,8 @@ module _ {s : List ℕ} {l : Lent} {r : Reading} {l′ : Lent} (c : CheckAs s l 
   unfolding checkBy
   result-book k b e = c .result ∙ when-fine s l refusal (judgedBy refusal done) k b e
 
-  pub result-wrong : LongEnough (sizes l) → (b : Book) → parse s ≡ Ok b → wrongItem b < length (b .items) → r ≡ refusal 8 (placeOf b (wrongItem b))
+  pub result-wrong : LongEnough (sizes l) → (b : Book) → parse s ≡ Ok b → wrongItem b < length (b .items)
+      → r ≡ refusal (codeOf (reasonIn b)) (placeOf b (wrongItem b))
   result-wrong k b e h = result-book k b e ∙ by-wrong b h refusal (done b)
 
   pub result-fine : LongEnough (sizes l) → (b : Book) → parse s ≡ Ok b → length (b .items) ≤ wrongItem b → r ≡ done b

@@ -1,6 +1,6 @@
 -- The loops over starts and commands: each way through the code, of whatever item stands at a place of the bytes. Assumes nothing.
 use mathlib.Core.Path.{_≡_, refl, sym, ap, ap₂, _∙_}
-use mathlib.Core.Bool.{Bool, true, false, not}
+use mathlib.Core.Bool.{Bool, true, false}
 use mathlib.Core.List.{List, [], _∷_, _++_}
 use Prim.Native.Nat.{ℕ, _+_, _-_, _^_, _≤_, _<_}
 use native.Mathlib.Numerals.{add-one}
@@ -11,12 +11,13 @@ use lib.Dec.{eqb}
 use lib.ListN.{length, getD, take, drop}
 use lib.Seq.{take-suc, take-all}
 use Rattle.base.specs.Tests.{pick, both, imp}
-use Rattle.base.specs.Bounded.{all}
+use Rattle.base.specs.Bounded.{all, any}
 use Rattle.base.specs.Masks.{member, added}
-use Rattle.base.proofs.Bounded.{all-fails}
+use Rattle.base.proofs.Tests.{imp-true, both-false}
+use Rattle.base.proofs.Bounded.{all-next, all-fails, any-next, any-hit}
 use Rattle.reversal.specs.Device.{Device, tabled}
 use Rattle.reversal.specs.Reversal.{Item}
-use Rattle.reversal.specs.Computed.Sets.{after, reach, runsBack, ends, startOk, accepts}
+use Rattle.reversal.specs.Computed.Sets.{after, reach, runsBack, ends, startOk, reverses, startUsed, effective}
 use Rattle.states.specs.declared.StateSet.{StateSet}
 use Rattle.states.specs.StateSets.{setOf, afterIn}
 use Rattle.states.proofs.Laws.{after-limits}
@@ -46,9 +47,10 @@ module _ (n m : ℕ) (table s : List ℕ) (p : Place) where
   abbrev pub Ended : ℕ → ℕ → Type 0
   Ended S w = (x : Item) → Fields s p x → w ≡ ends d (x .forward) (x .phi) S
 
-  -- the starts below S pass
-  abbrev pub Passed : ℕ → Type 0
-  Passed S = (x : Item) → Fields s p x → all (passes d x) S ≡ true
+  -- the starts below S pass, and whether some of them is used
+  pub record Passed (S : ℕ) (used : Bool) : Type 0 where
+    pub all-pass : (x : Item) → Fields s p x → all (passes d x) S ≡ true
+    pub some-used : (x : Item) → Fields s p x → any (startUsed d x) S ≡ used
 
   -- ---- forward commands
 
@@ -83,26 +85,27 @@ module _ (n m : ℕ) (table s : List ℕ) (p : Place) where
       ∙ ap₂ bitAnd (ap (λ (y : StateSet). y .mask) (e x f) ∙ ap (reach d (2 ^ S)) (take-all j (x .forward) l′)) (f .phi-is)
 
   -- ---- starts
-  start-more : (x : Item) (S : ℕ) → all (passes d x) S ≡ true → passes d x S ≡ true → all (passes d x) (S + 1) ≡ true
-  unfolding all both
-  start-more x S e h = rw (add-one, e) h
+  pub none-passed : Passed 0 false
+  unfolding all any
+  none-passed = record { all-pass = λ x f. refl; some-used = λ x f. refl }
 
-  imp-true : (b : Bool) → imp b true ≡ true
-  unfolding imp
-  imp-true true = refl
-  imp-true false = refl
+  -- a start that passes and is not used
+  passing : {S : ℕ} {used : Bool} → Passed S used → ((x : Item) → Fields s p x → (passes d x S ≡ true) × (startUsed d x S ≡ false)) → Passed (S + 1) used
+  passing {S} e h =
+      record {
+        all-pass = λ x f. all-next (passes d x) S (e .all-pass x f) (h x f .0);
+        some-used = λ x f. any-next (startUsed d x) S (h x f .1) ∙ e .some-used x f;
+      }
 
-  pub start-out : (S : ℕ) → Passed S → member (p .psi) S ≡ false → Passed (S + 1)
-  unfolding imp
-  start-out S e h = λ x f. start-more x S (e x f) (rw (← f .psi-is, h))
+  pub start-out : {S : ℕ} {used : Bool} → Passed S used → member (p .psi) S ≡ false → Passed (S + 1) used
+  unfolding imp both startUsed
+  start-out e h = passing e (λ x f. (rw (← f .psi-is, h), rw (← f .psi-is, h)))
 
   module _ (S w : ℕ) (all-ends : Ended S w) where
-    passing : Passed S → ((x : Item) → Fields s p x → startOk d x S ≡ true) → Passed (S + 1)
-    passing e h = λ x f. start-more x S (e x f) (ap (imp (member (x .psi) S)) (h x f) ∙ imp-true (member (x .psi) S))
-
-    pub start-none : Passed S → eqb w 0 ≡ true → Passed (S + 1)
-    unfolding startOk imp
-    start-none e h = passing e (λ x f. rw (← all-ends x f, h))
+    pub start-none : {used : Bool} → Passed S used → eqb w 0 ≡ true → Passed (S + 1) used
+    unfolding startOk imp startUsed
+    start-none e h =
+        passing e (λ x f. (rw (← all-ends x f, h) (imp-true (member (x .psi) S)), rw (← all-ends x f, h) (both-false (member (x .psi) S))))
 
     -- the part of the bytes that is lent to `runs_back`
     abbrev reverse : List ℕ
@@ -111,14 +114,23 @@ module _ (n m : ℕ) (table s : List ℕ) (p : Place) where
     reverse-is : (x : Item) → Fields s p x → reverse ≡ x .reverse
     reverse-is x f = let e : p .reverse + p .r - p .reverse ≡ p .r = omega arith in rw e (f .reverse-is)
 
-    pub start-back : Passed S → runsBack d w reverse S ≡ true → Passed (S + 1)
-    unfolding startOk
-    start-back e h = passing e (λ x f. rw (← all-ends x f, ← reverse-is x f, h) (imp-true (not (eqb w 0))))
+    module _ (h : member (p .psi) S ≡ true) (z : eqb w 0 ≡ false) where
+      pub start-back : {used : Bool} → Passed S used → runsBack d w reverse S ≡ true → Passed (S + 1) true
+      unfolding startOk imp both startUsed
+      start-back e g =
+          record {
+            all-pass = λ x f. all-next (passes d x) S (e .all-pass x f) (rw (← f .psi-is, h, ← all-ends x f, z, ← reverse-is x f, g));
+            some-used = λ x f. any-hit (startUsed d x) S (rw (← f .psi-is, h, ← all-ends x f, z));
+          }
 
-    pub start-fails : S < n → member (p .psi) S ≡ true → eqb w 0 ≡ false → runsBack d w reverse S ≡ false → (x : Item) → Fields s p x → accepts d x ≡ false
-    unfolding accepts startOk imp
-    start-fails l h z g x f = all-fails (passes d x) n S l (rw (← f .psi-is, h, ← all-ends x f, z, ← reverse-is x f, g))
+      pub start-fails : S < n → runsBack d w reverse S ≡ false → (x : Item) → Fields s p x → reverses d x ≡ false
+      unfolding reverses startOk imp
+      start-fails l g x f = all-fails (passes d x) n S l (rw (← f .psi-is, h, ← all-ends x f, z, ← reverse-is x f, g))
 
-  pub starts-done : (S : ℕ) → S ≡ n → Passed S → (x : Item) → Fields s p x → accepts d x ≡ true
-  unfolding accepts
-  starts-done S e h x f = ap (λ (k : ℕ). all (passes d x) k) (sym e) ∙ h x f
+  -- all starts
+  pub starts-done : {S : ℕ} {used : Bool} → S ≡ n → Passed S used → (x : Item) → Fields s p x → (reverses d x ≡ true) × (effective d x ≡ used)
+  unfolding reverses effective
+  starts-done e h x f = (
+    ap (λ (k : ℕ). all (passes d x) k) (sym e) ∙ h .all-pass x f,
+    ap (λ (k : ℕ). any (startUsed d x) k) (sym e) ∙ h .some-used x f,
+  )

@@ -1,27 +1,28 @@
 -- The judgement of a book's items: the loop over them, and the place of a record. Assumes nothing.
-use mathlib.Core.Path.{_≡_, refl, sym, ap, _∙_}
+use mathlib.Core.Path.{_≡_, refl, sym, ap, ap₂, _∙_}
 use mathlib.Core.Bool.{Bool, true, false, not}
 use mathlib.Core.List.{List, [], _∷_, _++_, map}
 use Prim.Native.Nat.{ℕ, suc, _+_, _-_, _≤_, _<_}
 use native.Mathlib.Numerals.{add-one}
 use native.Mathlib.Omega.{arith}
 use lib.ListN.{length, take, drop, length-append, length-drop, take-append-drop}
-use Rattle.base.specs.Tests.{pick}
+use Rattle.base.specs.Tests.{pick, both}
 use Rattle.base.specs.Bounded.{seek}
 use Rattle.base.proofs.Picks.{less-yes, less-no}
 use Rattle.reversal.specs.Device.{Device}
 use Rattle.reversal.specs.Reversal.{Item}
 use Rattle.reversal.specs.Chains.{item}
-use Rattle.reversal.specs.Computed.Sets.{accepts}
+use Rattle.reversal.specs.Computed.Sets.{reverses, effective, accepts}
 use Rattle.book.specs.Book.{Book, deviceOf, AllowedBook, bytesOf, itemRec, frame, framed}
 use Rattle.book.proofs.Scanning.{book-length}
 use Rattle.items.specs.Items.{Begins, ItemStands}
 use Rattle.items.proofs.Laws.{in-book}
 use Rattle.items.proofs.Walk.{one-more, all-passed}
-use Rattle.checker.specs.declared.Verdict.the-variants.{NoReversePlan}
+use Rattle.checker.specs.declared.Reason.{Reason}
+use Rattle.checker.specs.declared.Reason.the-variants.{NoReversePlan, NotEffective}
 use Rattle.checker.specs.declared.Judgement.the-variants.{AllAccepted, Wrong}
 use Rattle.checker.specs.Checks.{placeOf}
-use Rattle.checker.specs.Contract.{wrongItem, verdictOn, judgementOf}
+use Rattle.checker.specs.Contract.{wrongItem, reasonFor, reasonIn, judgementOf}
 
 -- ---- the place of a record: what stands before it is the book with the items before it
 sizes : (xs ys : List Item) → length (framed (map itemRec (xs ++ ys))) ≡ length (framed (map itemRec xs)) + length (framed (map itemRec ys))
@@ -52,10 +53,27 @@ module _ (b : Book) where
   unfolding judgementOf
   all-accepted l = sym (less-no AllAccepted _ AllAccepted (wrongItem b) (length (b .items)) l refl)
 
-  pub one-wrong : wrongItem b < length (b .items) → accepts (deviceOf b) (item (b .items) (wrongItem b)) ≡ false
-      → judgementOf b ≡ Wrong (placeOf b (wrongItem b)) NoReversePlan
-  unfolding judgementOf verdictOn pick
-  one-wrong l e = sym (less-yes (Wrong (placeOf b (wrongItem b)) NoReversePlan) _ AllAccepted (wrongItem b) (length (b .items)) l (rw e))
+  pub one-wrong : wrongItem b < length (b .items) → judgementOf b ≡ Wrong (placeOf b (wrongItem b)) (reasonIn b)
+  unfolding judgementOf
+  one-wrong l = sym (less-yes (Wrong (placeOf b (wrongItem b)) (reasonIn b)) _ AllAccepted (wrongItem b) (length (b .items)) l refl)
+
+-- ---- one item, by both rules
+module _ (d : Device) (x : Item) where
+  -- it is not accepted, for this reason
+  abbrev pub TurnedDown : Reason → Type 0
+  TurnedDown why = (accepts d x ≡ false) × (reasonFor d x ≡ why)
+
+  pub passes-both : reverses d x ≡ true → effective d x ≡ true → accepts d x ≡ true
+  unfolding accepts both
+  passes-both r e = rw (r, e)
+
+  pub not-reversed : reverses d x ≡ false → TurnedDown NoReversePlan
+  unfolding accepts both reasonFor pick
+  not-reversed r = (rw r, rw r)
+
+  pub not-used : reverses d x ≡ true → effective d x ≡ false → TurnedDown NotEffective
+  unfolding accepts both reasonFor pick
+  not-used r e = (rw (r, e), rw r)
 
 -- ---- the loop over items
 abbrev pub wrongAt : Device → Book → ℕ → Bool
@@ -91,10 +109,10 @@ module _ (d : Device) (s : List ℕ) (b : Book) where
           let i : w .number ≡ wrongItem b = rw (z, device) at (w .left) in
           sym (all-accepted b (omega arith))
 
-      pub found : (h : at < length s) → accepts d (item (b .items) (w .number)) ≡ false → Wrong at NoReversePlan ≡ judgementOf b
+      pub found : (h : at < length s) (why : Reason) → TurnedDown d (item (b .items) (w .number)) why → Wrong at why ≡ judgementOf b
       unfolding wrongItem seek pick
-      found h f =
+      found h why (f, r) =
           let l : length (b .items) - w .number ≡ suc (length (b .items) - (w .number + 1)) = omega (arith, stands h .known) in
           let i : w .number ≡ wrongItem b = rw (l, ap not f, device) at (w .left) in
-          let here : accepts (deviceOf b) (item (b .items) (wrongItem b)) ≡ false = rw (← i, ← device) f in
-          ap (λ (p : ℕ). Wrong p NoReversePlan) (place-is (stands h) ∙ ap (placeOf b) i) ∙ sym (one-wrong b (omega (arith, stands h .known)) here)
+          let here : reasonIn b ≡ why = rw (← i, ← device) r in
+          ap₂ Wrong (place-is (stands h) ∙ ap (placeOf b) i) (sym here) ∙ sym (one-wrong b (omega (arith, stands h .known)))

@@ -1,16 +1,17 @@
--- What 01 says of checking leaves one answer only: the result and the buffers. So it answers 0 exactly on accepted books, and 8 exactly where a
--- book keeps the rules and some item is not accepted, the first such one being at the place. Assumes nothing.
-use mathlib.Core.Path.{_≡_, sym, ap, _∙_, subst}
+-- What 01 and 02 say of checking leaves one answer only: the result and the buffers. So it answers 0 exactly on accepted books, and 8 or 12 exactly
+-- where a book keeps the rules and some item is not accepted, the first such one being at the place, with its own reason. Assumes nothing.
+use mathlib.Core.Path.{_≡_, refl, sym, ap, ap₂, _∙_, subst}
 use mathlib.Core.Logic.{_↔_}
 use mathlib.Core.List.{List}
-use Prim.Native.Nat.{ℕ, _≤_}
+use Prim.Native.Nat.{ℕ, _≤_, _<_}
 use native.Mathlib.Omega.{arith}
 use Rattle.base.specs.Lists.{Bytes}
 use Rattle.base.specs.Sizes.{LongEnough}
 use Rattle.base.proofs.Lists.{each-at}
 use Rattle.base.proofs.Lowest.{one-lowest}
-use Rattle.reversal.specs.Reversal.{Accepted}
-use Rattle.reversal.specs.Chains.{absent}
+use Rattle.reversal.specs.Device.{Device}
+use Rattle.reversal.specs.Reversal.{Item, Accepted}
+use Rattle.reversal.specs.Chains.{absent, item}
 use Rattle.book.specs.Book.{Book, deviceOf, AllowedBook, bytesOf}
 use Rattle.book.specs.Lent.{Lent, sizes}
 use Rattle.book.proofs.Codes.{refusal-codes}
@@ -19,15 +20,39 @@ use Rattle.reader.specs.declared.Reading.{Reading}
 use Rattle.reader.specs.Reads.{refusal, done, Filled, Reads}
 use Rattle.reader.specs.Reads as reads
 use Rattle.reader.proofs.Unique.{same-filled, reads-unique, zero↔ as read-zero↔}
-use Rattle.checker.specs.declared.Verdict.the-variants.{Accepted as FineVerdict, NoReversePlan}
-use Rattle.checker.specs.Verdicts.{CheckCode, by-reading, by-verdict}
-use Rattle.checker.specs.Checks.{AllAccepted, AcceptedBook, placeOf, FirstWrong, Checked, Checks, unread, wrong, fine}
+use Rattle.checker.specs.declared.Reason.{Reason}
+use Rattle.checker.specs.declared.Reason.the-variants.{NoReversePlan, NotEffective}
+use Rattle.checker.specs.Reasons.{codeOf, Due}
+use Rattle.checker.specs.Checks.{AllAccepted, AcceptedBook, placeOf, FirstWrong, WrongFor, Checked, Checks, unread, wrong, fine}
 
 one-wrong : (b : Book) {i j : ℕ} → FirstWrong b i → FirstWrong b j → i ≡ j
 one-wrong b f g = one-lowest f g
 
 none-wrong : (b : Book) {i : ℕ} → FirstWrong b i → AllAccepted b → ⊥
 none-wrong b {i} f e = f .wrong (each-at (Accepted (deviceOf b)) (b .items) e i absent (f .inside))
+
+-- an item has one reason at most, and a code one
+due-unique : (d : Device) (x : Item) (why other : Reason) → Due why d x → Due other d x → why ≡ other
+due-unique d x NoReversePlan NoReversePlan f g = refl
+due-unique d x NoReversePlan NotEffective f g = absurd (f (g .reverse-plan))
+due-unique d x NotEffective NoReversePlan f g = absurd (g (f .reverse-plan))
+due-unique d x NotEffective NotEffective f g = refl
+
+same-code : (why other : Reason) → codeOf why ≡ codeOf other → why ≡ other
+same-code NoReversePlan NoReversePlan e = refl
+same-code NoReversePlan NotEffective e = absurd (omega arith)
+same-code NotEffective NoReversePlan e = absurd (omega arith)
+same-code NotEffective NotEffective e = refl
+
+over-seven : (why : Reason) → 7 < codeOf why
+over-seven NoReversePlan = omega arith
+over-seven NotEffective = omega arith
+
+-- the first wrong item is one, and so is its reason
+same-wrong : (b : Book) {i j : ℕ} {why other : Reason} → WrongFor b i why → WrongFor b j other → (i ≡ j) × (why ≡ other)
+same-wrong b {i} {j} {why} {other} f g =
+    let e : i ≡ j = one-wrong b (f .first) (g .first) in
+    (e, due-unique (deviceOf b) (item (b .items) j) why other (subst (λ (k : ℕ). Due why (deviceOf b) (item (b .items) k)) e (f .due)) (g .due))
 
 -- reading has no code above 7
 read-codes : {book : List ℕ} {l : Lent} {r : Reading} {l′ : Lent} → Reads book l r l′ → r .code ≤ 7
@@ -44,17 +69,21 @@ this-book {b = b} {b′ = b′} a same f = one-book b′ b (f .allowed) a (f .by
 pub accepted-book : {book : List ℕ} {l : Lent} {b : Book} {l′ : Lent} → Checked book l b l′ → AcceptedBook book b
 accepted-book k = record { allowed = k .filled .allowed; bytes = k .filled .bytes; accepted = k .accepted }
 
--- checking answers with one of its codes
+-- the codes that checking answers: "Reading stops after 7"; then the reasons'
+pub data CheckCode : ℕ → Type 0 where
+  by-reading : {code : ℕ} → code ≤ 7 → CheckCode code
+  by-item : (why : Reason) → CheckCode (codeOf why)
+
 pub check-codes : {book : List ℕ} {l : Lent} {r : Reading} {l′ : Lent} → Checks book l r l′ → CheckCode (r .code)
 check-codes (unread x n) = by-reading (read-codes x)
-check-codes (wrong b f w e) = rw e (by-verdict NoReversePlan)
-check-codes (fine b k e) = rw e (by-verdict FineVerdict)
+check-codes (wrong b f {why = why} w e) = rw e (by-item why)
+check-codes (fine b k e) = rw e (by-reading {code = 0} (omega arith))
 
--- and so never with that of assembling's "no chain"
+-- and so never that of assembling's "no chain"
 pub not-eleven : {code : ℕ} → CheckCode code → code ≡ 11 → ⊥
 not-eleven (by-reading l) e = omega arith
-not-eleven (by-verdict FineVerdict) e = omega arith
-not-eleven (by-verdict NoReversePlan) e = omega arith
+not-eleven (by-item NoReversePlan) e = omega arith
+not-eleven (by-item NotEffective) e = omega arith
 
 module _ {book : List ℕ} {l : Lent} {r : Reading} {l′ : Lent} (h : Bytes book) where
   pub checks-unique : {q : Reading} {l″ : Lent} → Checks book l r l′ → Checks book l q l″ → (r ≡ q) × (l′ ≡ l″)
@@ -62,17 +91,17 @@ module _ {book : List ℕ} {l : Lent} {r : Reading} {l′ : Lent} (h : Bytes boo
   checks-unique (unread x n) (wrong b f w e) = absurd (was-read h x n f)
   checks-unique (unread x n) (fine b k e) = absurd (was-read h x n (k .filled))
   checks-unique (wrong b f w e) (unread y n) = absurd (was-read h y n f)
-  checks-unique (wrong b f {i} w e) (wrong b′ g {i = j} v e′) =
+  checks-unique (wrong b f {i} {why} w e) (wrong b′ g v e′) =
       let (x, p) = same-filled f g in
-      let y : i ≡ j = one-wrong b′ (subst (λ (z : Book). FirstWrong z i) x w) v in
-      (e ∙ (ap (λ (z : Book). refusal 8 (placeOf z i)) x ∙ (ap (λ (z : ℕ). refusal 8 (placeOf b′ z)) y ∙ sym e′)), p)
-  checks-unique (wrong b f {i} w e) (fine b′ k e′) =
+      let (y, z) = same-wrong b′ (subst (λ (c : Book). WrongFor c i why) x w) v in
+      (e ∙ (ap (λ (c : Book). refusal (codeOf why) (placeOf c i)) x ∙ (ap₂ (λ (c : Reason) (j : ℕ). refusal (codeOf c) (placeOf b′ j)) z y ∙ sym e′)), p)
+  checks-unique (wrong b f {i} {why} w e) (fine b′ k e′) =
       let (x, p) = same-filled f (k .filled) in
-      absurd (none-wrong b′ (subst (λ (z : Book). FirstWrong z i) x w) (k .accepted))
+      absurd (none-wrong b′ (subst (λ (c : Book). WrongFor c i why) x w .first) (k .accepted))
   checks-unique (fine b k e) (unread y n) = absurd (was-read h y n (k .filled))
-  checks-unique (fine b k e) (wrong b′ g {i} w e′) =
+  checks-unique (fine b k e) (wrong b′ g {i} {why} w e′) =
       let (x, p) = same-filled g (k .filled) in
-      absurd (none-wrong b (subst (λ (z : Book). FirstWrong z i) x w) (k .accepted))
+      absurd (none-wrong b (subst (λ (c : Book). WrongFor c i why) x w .first) (k .accepted))
   checks-unique (fine b k e) (fine b′ k′ e′) =
       let (x, p) = same-filled (k .filled) (k′ .filled) in
       (e ∙ (ap done x ∙ sym e′), p)
@@ -83,23 +112,23 @@ module _ {book : List ℕ} {l : Lent} {r : Reading} {l′ : Lent} (h : Bytes boo
 
   pub checked-fine : Checks book l r l′ → LongEnough (sizes l) → {b : Book} → AcceptedBook book b → (r ≡ done b) × Checked book l b l′
   checked-fine (unread x n) long a = absurd (unread-not x n long (a .allowed) (a .bytes))
-  checked-fine (wrong b′ f {i} w e) long {b} a =
-      absurd (none-wrong b (subst (λ (z : Book). FirstWrong z i) (this-book (a .allowed) (a .bytes) f) w) (a .accepted))
+  checked-fine (wrong b′ f {i} {why} w e) long {b} a =
+      absurd (none-wrong b (subst (λ (c : Book). WrongFor c i why) (this-book (a .allowed) (a .bytes) f) w .first) (a .accepted))
   checked-fine (fine b′ k e) long {b} a =
       let x : b′ ≡ b = this-book (a .allowed) (a .bytes) (k .filled) in
       (e ∙ ap done x, subst (λ (z : Book). Checked book l z l′) x k)
 
-  pub checked-wrong : Checks book l r l′ → LongEnough (sizes l) → {b : Book} → AllowedBook b → bytesOf b ≡ book → {i : ℕ} → FirstWrong b i
-      → (r ≡ refusal 8 (placeOf b i)) × Filled book l b l′
+  pub checked-wrong : Checks book l r l′ → LongEnough (sizes l) → {b : Book} → AllowedBook b → bytesOf b ≡ book → {i : ℕ} {why : Reason} → WrongFor b i why
+      → (r ≡ refusal (codeOf why) (placeOf b i)) × Filled book l b l′
   checked-wrong (unread x n) long a same w = absurd (unread-not x n long a same)
-  checked-wrong (wrong b′ f {i = j} v e) long {b} a same {i} w =
+  checked-wrong (wrong b′ f {i = j} {why = other} v e) long {b} a same w =
       let x : b′ ≡ b = this-book a same f in
-      let y : j ≡ i = one-wrong b (subst (λ (z : Book). FirstWrong z j) x v) w in (
-        e ∙ (ap (λ (z : Book). refusal 8 (placeOf z j)) x ∙ ap (λ (z : ℕ). refusal 8 (placeOf b z)) y),
-        subst (λ (z : Book). Filled book l z l′) x f,
+      let (y, z) = same-wrong b (subst (λ (c : Book). WrongFor c j other) x v) w in (
+        e ∙ (ap (λ (c : Book). refusal (codeOf other) (placeOf c j)) x ∙ ap₂ (λ (c : Reason) (k : ℕ). refusal (codeOf c) (placeOf b k)) z y),
+        subst (λ (c : Book). Filled book l c l′) x f,
       )
   checked-wrong (fine b′ k e) long {b} a same w =
-      absurd (none-wrong b w (subst AllAccepted (this-book a same (k .filled)) (k .accepted)))
+      absurd (none-wrong b (w .first) (subst AllAccepted (this-book a same (k .filled)) (k .accepted)))
 
   -- ---- exactly
   module _ (x : Checks book l r l′) where
@@ -111,15 +140,17 @@ module _ {book : List ℕ} {l : Lent} {r : Reading} {l′ : Lent} (h : Bytes boo
       where
         forth : r .code ≡ 0 → Checks book l r l′ → LongEnough (sizes l) × ((b : Book) × AcceptedBook book b)
         forth z (unread y n) = absurd (n z)
-        forth z (wrong b f w e) = absurd (omega (arith, code-of e))
+        forth z (wrong b f {why = why} w e) = absurd (omega (arith, code-of e, over-seven why))
         forth z (fine b k e) = (k .filled .long, (b, accepted-book k))
 
-    pub eight↔ : (r .code ≡ 8)
-        ↔ (LongEnough (sizes l) × ((b : Book) × AllowedBook b × (bytesOf b ≡ book) × ((i : ℕ) × FirstWrong b i × (r .place ≡ placeOf b i))))
-    eight↔ = ((λ z. forth z x), λ (long, (b, a, same, (i, w, p))). code-of (checked-wrong x long a same w .0))
+    -- with the code of a reason, a book was read whose first wrong item has that reason
+    pub wrong-for : (why : Reason) → r .code ≡ codeOf why
+        → LongEnough (sizes l) × ((b : Book) × AllowedBook b × (bytesOf b ≡ book) × ((i : ℕ) × WrongFor b i why))
+    wrong-for why z = go x
       where
-        forth : r .code ≡ 8 → Checks book l r l′
-            → LongEnough (sizes l) × ((b : Book) × AllowedBook b × (bytesOf b ≡ book) × ((i : ℕ) × FirstWrong b i × (r .place ≡ placeOf b i)))
-        forth z (unread y n) = absurd (omega (arith, read-codes y))
-        forth z (wrong b f {i} w e) = (f .long, (b, f .allowed, f .bytes, (i, w, ap (λ (y : Reading). y .place) e)))
-        forth z (fine b k e) = absurd (omega (arith, code-of e))
+        go : Checks book l r l′ → LongEnough (sizes l) × ((b : Book) × AllowedBook b × (bytesOf b ≡ book) × ((i : ℕ) × WrongFor b i why))
+        go (unread y n) = absurd (omega (arith, read-codes y, over-seven why))
+        go (wrong b f {i} {why = other} w e) =
+            let q : other ≡ why = same-code other why (sym (code-of e) ∙ z) in
+            (f .long, (b, f .allowed, f .bytes, (i, subst (λ (c : Reason). WrongFor b i c) q w)))
+        go (fine b k e) = absurd (omega (arith, code-of e, over-seven why))

@@ -1,11 +1,12 @@
--- Q's book checked, as bytes, with literal numbers: accepted; with the item of Q2 in place of item 1; with the item of Q3 behind its items.
+-- Q's book checked, as bytes, with literal numbers: accepted; with the item of Q2 in place of item 1; with the items of Q3 and Q4 behind its items.
 -- Assumes nothing: these are definitions.
 use mathlib.Core.Path.{_≡_}
 use mathlib.Core.List.{List, [], _∷_, _++_}
 use Prim.Native.Nat.{ℕ}
 use lib.ListN.{take, drop}
 use Rattle.base.specs.Sizes.{LongEnough}
-use Rattle.reversal.specs.Twelve.{made}
+use Rattle.reversal.specs.Reversal.{Item}
+use Rattle.reversal.specs.Twelve.{made, itemQ2, itemQ3, itemQ4}
 use Rattle.book.specs.Book.{frame, itemRec}
 use Rattle.book.specs.Lent.{Lent, sizes}
 use Rattle.book.specs.Example.{bytesQ}
@@ -16,11 +17,23 @@ use Rattle.checker.specs.Checks.{Checks}
 pub record Judges (book : List ℕ) (answer : Reading) : Type 0 where
   pub result : {l : Lent} {r : Reading} {l′ : Lent} → Checks book l r l′ → LongEnough (sizes l) → r ≡ answer
 
+-- an item's record
+abbrev pub recorded : Item → List ℕ
+recorded x = frame (itemRec x)
+
 pub record QChecked : Type 0 where
   -- "Q1 all five items are accepted."
   pub q1 : Judges bytesQ (record { code = 0; place = 0; n = 3; m = 3; items = 5 })
   -- "Q2 item 1 with psi 3 isn't.": its record stands from 129 to 153
-  pub q2 : Judges (take 129 bytesQ ++ (frame (itemRec (made (1 ∷ []) (0 ∷ []) 7 3)) ++ drop 153 bytesQ))
+  pub q2 : Judges (take 129 bytesQ ++ (recorded itemQ2 ++ drop 153 bytesQ))
       (record { code = 8; place = 129; n = 0; m = 0; items = 0 })
   -- "Q3 2 / 2, 7, 7 isn't (stuck)."
-  pub q3 : Judges (bytesQ ++ frame (itemRec (made (2 ∷ []) (2 ∷ []) 7 7))) (record { code = 8; place = 225; n = 0; m = 0; items = 0 })
+  pub q3 : Judges (bytesQ ++ recorded itemQ3) (record { code = 8; place = 225; n = 0; m = 0; items = 0 })
+  -- 02: "Case Q4 becomes a rejected item."
+  pub q4 : Judges (bytesQ ++ recorded itemQ4) (record { code = 12; place = 225; n = 0; m = 0; items = 0 })
+  -- phi zero and psi zero are well-formed, and 12
+  pub no-phi : Judges (bytesQ ++ recorded (made (1 ∷ []) (0 ∷ []) 0 1)) (record { code = 12; place = 225; n = 0; m = 0; items = 0 })
+  pub no-psi : Judges (bytesQ ++ recorded (made (1 ∷ []) (0 ∷ []) 7 0)) (record { code = 12; place = 225; n = 0; m = 0; items = 0 })
+  -- 02: "judged item by item beside 8": of two wrong items the first decides
+  pub eight-first : Judges (bytesQ ++ (recorded itemQ3 ++ recorded itemQ4)) (record { code = 8; place = 225; n = 0; m = 0; items = 0 })
+  pub twelve-first : Judges (bytesQ ++ (recorded itemQ4 ++ recorded itemQ3)) (record { code = 12; place = 225; n = 0; m = 0; items = 0 })

@@ -11,31 +11,34 @@ use Rattle.base.specs.Bounded.{seek}
 use Rattle.reversal.specs.Device.{Device}
 use Rattle.reversal.specs.Reversal.{Item}
 use Rattle.reversal.specs.Chains.{item}
-use Rattle.reversal.specs.Computed.Sets.{accepts}
+use Rattle.reversal.specs.Computed.Sets.{reverses, accepts}
 use Rattle.book.specs.Book.{Book, deviceOf, AllowedBook, bytesOf}
 use Rattle.book.specs.Lent.{Lent}
 use Rattle.reader.specs.declared.Reading.{Reading}
 use Rattle.reader.specs.Reads.{refusal, done}
 use Rattle.reader.specs.Contract.{readBy, lentBy}
-use Rattle.checker.specs.declared.Verdict.{Verdict}
-use Rattle.checker.specs.declared.Verdict.the-variants.{Accepted, NoReversePlan}
+use Rattle.checker.specs.declared.Reason.{Reason}
+use Rattle.checker.specs.declared.Reason.the-variants.{NoReversePlan, NotEffective}
 use Rattle.checker.specs.declared.Judgement.{Judgement}
 use Rattle.checker.specs.declared.Judgement.the-variants.{AllAccepted, Wrong}
-use Rattle.checker.specs.Verdicts.{codeOf}
+use Rattle.checker.specs.Reasons.{codeOf}
 use Rattle.checker.specs.Checks.{placeOf}
 
 -- the lowest item that is not accepted, or their number
 unfoldable pub wrongItem : Book → ℕ
 wrongItem b = seek (λ i. not (accepts (deviceOf b) (item (b .items) i))) 0 (length (b .items))
 
--- the verdict on an item
-unfoldable pub verdictOn : Device → Item → Verdict
-verdictOn d x = pick (accepts d x) Accepted NoReversePlan
+-- the reason of an item that is not accepted
+unfoldable pub reasonFor : Device → Item → Reason
+reasonFor d x = pick (reverses d x) NotEffective NoReversePlan
 
--- the judgement of the items of b: at the first wrong one's record, the verdict on it
+-- that of the lowest such item
+abbrev pub reasonIn : Book → Reason
+reasonIn b = reasonFor (deviceOf b) (item (b .items) (wrongItem b))
+
+-- the judgement of the items of b: the first wrong one's record, and why
 unfoldable pub judgementOf : Book → Judgement
-judgementOf b =
-    pick (less (wrongItem b) (length (b .items))) (Wrong (placeOf b (wrongItem b)) (verdictOn (deviceOf b) (item (b .items) (wrongItem b)))) AllAccepted
+judgementOf b = pick (less (wrongItem b) (length (b .items))) (Wrong (placeOf b (wrongItem b)) (reasonIn b)) AllAccepted
 
 -- the contract of `first_wrong`: book s, the device d in the table, answer r
 abbrev pub Judged : List ℕ → Device → Judgement → Type 0
@@ -43,9 +46,9 @@ Judged s d r = (b : Book) → AllowedBook b → bytesOf b ≡ s → d ≡ device
 
 abbrev pub onJudgement : {A : Type 0} → Judgement → (ℕ → ℕ → A) → A → A
 onJudgement AllAccepted refuse fine = fine
-onJudgement (Wrong place verdict) refuse fine = refuse (codeOf verdict) place
+onJudgement (Wrong place why) refuse fine = refuse (codeOf why) place
 
--- of a book that was read: the code of the verdict on its first wrong item, at that item's place, else `fine`
+-- of a book that was read: the code for its first wrong item, at that item's place, else `fine`
 abbrev pub judgedBy : {A : Type 0} → (ℕ → ℕ → A) → (Book → A) → Book → A
 judgedBy refuse fine b = onJudgement (judgementOf b) refuse (fine b)
 

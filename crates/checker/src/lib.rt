@@ -7,21 +7,22 @@ ghost use Rattle.reversal.specs.Device.{tabled};
 ghost use Rattle.reversal.specs.Computed.Sets.{runsBack};
 ghost use Rattle.book.specs.Book.{WellFormed};
 ghost use Rattle.book.specs.Lent.{lent};
-ghost use Rattle.checker.specs.Verdicts.{codeOf};
+ghost use Rattle.checker.specs.Reasons.{codeOf};
 ghost use Rattle.checker.specs.Contract.{Judged, CheckAs};
 
-// The verdict on an item.
-pub enum Verdict {
-    Accepted,
-    // Not a conditional reverse plan.
+// Why an item is not accepted.
+pub enum Reason {
+    // It is no conditional reverse plan.
     NoReversePlan,
+    // It is one, but no start in psi has an end in phi: it can never be used.
+    NotEffective,
 }
 
 // What the judgement of all items answers.
 pub enum Judgement {
     AllAccepted,
-    // The first item that is not accepted: the place of its record, and the verdict on it.
-    Wrong(u64, Verdict),
+    // The first item that is not accepted: the place of its record, and why.
+    Wrong(u64, Reason),
 }
 
 // A reverse run: no command left and the goal alone in the set, or a next command that every state of the set can carry out, with the
@@ -41,8 +42,8 @@ fn runs_back(set: StateSet, table: &[u64], n: u64, m: u64, commands: &[u8], goal
     runs_back(next.set, table, n, m, &commands[1..], goal)
 }
 
-// The first item that is not accepted, from the book's bytes. For each start in psi, the ends in phi are run back together; the search is
-// left as soon as one item fails.
+// The first item that is not accepted, from the book's bytes. For each start in psi, the ends in phi are run back together; an item is
+// effective if some start is used, that is, has an end. The search is left as soon as one item fails.
 fn first_wrong(book: &[u8], table: &[u64], n: u64, m: u64) -> Judgement
     requires { ⌜ (n ≤ 64) × (m ≤ 32) × WellFormed (now book) ⌝ }
     ensures { λ r. ⌜ Judged (now (book .entry)) (tabled n m (now (table .entry))) r ⌝ }
@@ -53,6 +54,7 @@ fn first_wrong(book: &[u8], table: &[u64], n: u64, m: u64) -> Judgement
         let item = items::item_at(book, at);
         let forward = item.forward;
         let reverse = item.reverse;
+        let mut used = false;
         for start in 0..n {
             if StateSet::of(item.psi).has(start) {
                 let mut set = StateSet::of(0).add(start);
@@ -62,25 +64,30 @@ fn first_wrong(book: &[u8], table: &[u64], n: u64, m: u64) -> Judgement
                 }
                 set = set.within(item.phi);
                 if !set.is_empty() {
+                    used = true;
                     if !runs_back(set, table, n, m, &book[reverse..reverse + item.r], start) {
-                        found = Judgement::Wrong(at as u64, Verdict::NoReversePlan);
+                        found = Judgement::Wrong(at as u64, Reason::NoReversePlan);
                         break 'items;
                     }
                 }
             }
+        }
+        if !used {
+            found = Judgement::Wrong(at as u64, Reason::NotEffective);
+            break 'items;
         }
         at = item.next;
     }
     found
 }
 
-// 01's code for a verdict.
-fn code_of(verdict: Verdict) -> u64
-    ensures { λ r. ⌜ r ≡ codeOf verdict ⌝ }
+// The code for a reason.
+fn code_of(why: Reason) -> u64
+    ensures { λ r. ⌜ r ≡ codeOf why ⌝ }
 {
-    match verdict {
-        Verdict::Accepted => 0,
-        Verdict::NoReversePlan => 8,
+    match why {
+        Reason::NoReversePlan => 8,
+        Reason::NotEffective => 12,
     }
 }
 
@@ -96,6 +103,6 @@ pub fn check(book: &[u8], table: &mut [u64], slots: &mut [u8]) -> Reading
     let judged = first_wrong(book, table, found.n, found.m);
     match judged {
         Judgement::AllAccepted => found,
-        Judgement::Wrong(place, verdict) => reader::refused(code_of(verdict), place),
+        Judgement::Wrong(place, why) => reader::refused(code_of(why), place),
     }
 }

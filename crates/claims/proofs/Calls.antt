@@ -3,13 +3,20 @@ use mathlib.Core.Path.{_≡_, subst⁻¹, subst₂}
 use mathlib.Core.List.{List}
 use Prim.Native.Nat.{ℕ}
 use prog.Routine.{Routine}
+use Rattle.base.specs.Lists.{Bytes}
+use Rattle.book.specs.Lent.{Lent}
+use Rattle.reader.specs.declared.Reading.{Reading}
 use Rattle.reader.specs.Contract.{ReadAs}
 use Rattle.reader.proofs.Exactly.{reads}
 use Rattle.reader.proofs.Unique.{zero↔ as read-zero↔}
 use Rattle.reader.proofs.read as read
+use Rattle.checker.specs.declared.Reason.{Reason}
+use Rattle.checker.specs.declared.Reason.the-variants.{NoReversePlan, NotEffective}
+use Rattle.checker.specs.Reasons.{codeOf}
+use Rattle.checker.specs.Checks.{Checks}
 use Rattle.checker.specs.Contract.{CheckAs}
 use Rattle.checker.proofs.Exactly.{checks}
-use Rattle.checker.proofs.Unique.{zero↔ as check-zero↔, eight↔}
+use Rattle.checker.proofs.Unique.{zero↔ as check-zero↔, wrong-for, checked-wrong}
 use Rattle.checker.proofs.check as check
 use Rattle.writer.specs.Contract.{WriteAs}
 use Rattle.writer.proofs.Exactly.{writes}
@@ -40,13 +47,17 @@ use Rattle.report.specs.Contract.{ReportAs}
 use Rattle.report.proofs.Exactly.{reports}
 use Rattle.report.proofs.report as report
 use Rattle.claims.specs.Always.{Always}
-use Rattle.claims.specs.Claims.{onRead, onWrite, onAssemble, onLegs, onLookup, onOutcomes, onReport, WellWritten, ReadClaims, CheckClaims, WriteClaims, AssembleClaims, LegsClaims, LookupClaims, RuleClaims, ConstantTable, RidgeTable, PortableTable, ReportClaims}
+use Rattle.claims.specs.Claims.{onRead, onWrite, onAssemble, onLegs, onLookup, onOutcomes, onReport, WellWritten, ReadClaims, ChecksWrong, CheckClaims, WriteClaims, AssembleClaims, LegsClaims, LookupClaims, RuleClaims, ConstantTable, RidgeTable, PortableTable, ReportClaims}
 use Rattle.claims.specs.Worked.{ChecksWorked, AssemblesWorked}
 use Rattle.claims.proofs.Weaker.{weaker}
 use Rattle.claims.proofs.RoundTrips.{read-back, write-back}
 
 constant-table : {d : DeviceRule} {not-empty : ℕ} {table : List ℕ} → EqualsRule d not-empty table → ConstantTable d not-empty table
 constant-table {d} q = record { equals-rule = q; generated = entry-generated d q }
+
+checks-wrong : (why : Reason) {book : List ℕ} {l : Lent} {r : Reading} {l′ : Lent} → Bytes book → Checks book l r l′
+    → ChecksWrong (codeOf why) why book l r l′
+checks-wrong why h x = record { only = wrong-for h x why; always = λ long b a same i w. checked-wrong h x long a same w .0 }
 
 module _ (ρ : Routine) where
   pub read-claims : Always read.ended ρ (onRead ReadAs) → ReadClaims ρ
@@ -62,7 +73,8 @@ module _ (ρ : Routine) where
       record {
         says = weaker check.ended ρ (onRead CheckAs) _ (λ κs a r e c. checks c) always;
         zero = weaker check.ended ρ (onRead CheckAs) _ (λ κs a r e c. check-zero↔ (c .bytes) (checks c)) always;
-        eight = weaker check.ended ρ (onRead CheckAs) _ (λ κs a r e c. eight↔ (c .bytes) (checks c)) always;
+        eight = weaker check.ended ρ (onRead CheckAs) _ (λ κs a r e c. checks-wrong NoReversePlan (c .bytes) (checks c)) always;
+        twelve = weaker check.ended ρ (onRead CheckAs) _ (λ κs a r e c. checks-wrong NotEffective (c .bytes) (checks c)) always;
       }
 
   pub write-claims : Always write.ended ρ (onWrite WriteAs) → WriteClaims ρ
@@ -120,7 +132,11 @@ module _ (ρ : Routine) where
 -- a run of the joint table, whatever bytes it came in
 worked-run : {E : Type 0} (form : LegForm E) {book run : List ℕ} {l : AllLent E} {r : Assembly} {l′ : AllLent E} → Assembles form book run l r l′
     → AssemblesWorked form book run l r l′
-worked-run form {l = l} {r} {l′} x u a give e f long = give .left (subst₂ (λ (y z : List ℕ). Assembles form y z l r l′) e f x) long
+worked-run form {l = l} {r} {l′} x =
+    record {
+      run-of = λ u a give e f long. give .left (subst₂ (λ (y z : List ℕ). Assembles form y z l r l′) e f x) long;
+      refused = λ code place gives long. gives .left x long;
+    }
 
 module _ (ρ : Routine) where
   pub check-worked : Always check.ended ρ (onRead CheckAs) → Always check.ended ρ (onRead ChecksWorked)

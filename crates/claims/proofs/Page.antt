@@ -10,7 +10,7 @@ use Rattle.base.specs.Sets.{In, NoBitFrom}
 use Rattle.base.specs.Lists.{Each, Bytes}
 use Rattle.base.specs.Tables.{every, byRule}
 use Rattle.reversal.specs.Device.{Device, Proper, tabled}
-use Rattle.reversal.specs.Reversal.{Item, Executable, EndsIn, Accepted, Returns}
+use Rattle.reversal.specs.Reversal.{Item, Executable, EndsIn, Reverses, Effective, Accepted, Returns}
 use Rattle.reversal.specs.Runs.{Run, AllowedRun, last, Possible}
 use Rattle.reversal.specs.Chains.{Fits, Chain, planOf, Undoes}
 use Rattle.reversal.specs.Answers.{Allowed, Answer, Answers, Numbers}
@@ -20,6 +20,7 @@ use Rattle.reversal.specs.Computed.Beliefs.{belief}
 use Rattle.reversal.specs.Computed.Assembly.{fits, numbers, answer}
 use Rattle.reversal.proofs.Paths.{returns↔}
 use Rattle.reversal.proofs.Reversals.{tabled-proper, accepts↔}
+use Rattle.reversal.proofs.Effective.{not-both}
 use Rattle.reversal.proofs.Histories.{possible↔, percept-states}
 use Rattle.reversal.proofs.Fitting.{fits↔, fits-possible}
 use Rattle.reversal.proofs.EndToEnd.{chain-undoes}
@@ -121,10 +122,15 @@ use Rattle.claims.proofs.Calls.{read-claims, check-claims, write-claims
 
 -- ---- the meaning
 
--- 1. an item is accepted by the check on sets exactly when it is a conditional reverse plan by trajectories, for every table without a bit at n or above
+-- 1. an item is accepted by the check on sets exactly when it is, by trajectories, a conditional reverse plan that is also effective, for every table
+-- without a bit at n or above
 pub acceptance : (n m : ℕ) (table : List ℕ) → ((s c : ℕ) → s < n → c < m → NoBitFrom n (getD table (s * m + c) 0))
     → (x : Item) → NoBitFrom n (x .psi) → T (accepts (tabled n m table) x) ↔ Accepted (tabled n m table) x
 acceptance n m table fine x psi = accepts↔ (tabled n m table) (tabled-proper n m table fine) x psi
+
+-- no item has both reasons for not being accepted: one that is not effective is a conditional reverse plan
+pub one-reason : (d : Device) (x : Item) → (Reverses d x → ⊥) → (Effective d x → ⊥) → ⊥
+one-reason = not-both
 
 -- 01's sending and 001's executions say the same
 pub sending : (d : Device) (cs : List ℕ) (E S : ℕ) → Returns d E cs S ↔ (Executable d E cs × EndsIn d E cs S)
@@ -284,7 +290,7 @@ only-answer = answers-unique
 
 -- ---- worked cases, with literal numbers
 
--- the twelve cases of 01 on the small device Q, and plans that do not undo a run
+-- the twelve cases of 01 on the small device Q, items that can never be used, and plans that do not undo a run
 pub cases : Twelve
 cases = twelve
 
@@ -295,7 +301,7 @@ case-books = book-cases.worked
 pub case-runs : run-example.Worked
 case-runs = run-cases.worked
 
--- of bytes: Q read and checked, Q5 to Q12 assembled, their legs as bytes and as structs
+-- of bytes: Q read and checked, Q5 to Q12 assembled, their legs as bytes and as structs; with the items of Q2, Q3 and Q4 refused
 pub case-read : QRead
 case-read = q-read
 

@@ -11,9 +11,11 @@ use Rattle.base.specs.Sizes.{LongEnough}
 use Rattle.book.specs.Book.{Book, AllowedBook, bytesOf, WellFormed}
 use Rattle.book.specs.Lent.{Lent, lent, sizes, Holds}
 use Rattle.reader.specs.declared.Reading.{Reading}
-use Rattle.reader.specs.Reads.{Reads}
+use Rattle.reader.specs.Reads.{refusal, Reads}
 use Rattle.reader.proofs.read as read
-use Rattle.checker.specs.Checks.{AcceptedBook, placeOf, FirstWrong, Checks}
+use Rattle.checker.specs.declared.Reason.{Reason}
+use Rattle.checker.specs.declared.Reason.the-variants.{NoReversePlan, NotEffective}
+use Rattle.checker.specs.Checks.{AcceptedBook, placeOf, WrongFor, Checks}
 use Rattle.checker.proofs.check as check
 use Rattle.writer.specs.declared.Writing.{Writing}
 use Rattle.writer.specs.Writes.{buffers, BookWritten, Writes}
@@ -110,20 +112,22 @@ pub record ReadClaims (ρ : Routine) : Type 2 where
   pub zero : Always read.ended ρ (onRead ReadsZero)
   pub given-back : Always read.ended ρ (onRead ReadBack)
 
--- checking answers 0 exactly where the bytes keep the rules and every item is a conditional reverse plan by trajectories
+-- checking answers 0 exactly where the bytes keep the rules and every item is, by trajectories, a conditional reverse plan that is also effective
 abbrev pub ChecksZero : Read
 ChecksZero book l r l′ = (r .code ≡ 0) ↔ (LongEnough (sizes l) × ((b : Book) × AcceptedBook book b))
 
--- and 8 exactly where they keep the rules and some item is not; the place is that of the first such item's record
-abbrev pub ChecksEight : Read
-ChecksEight book l r l′ =
-    (r .code ≡ 8) ↔ (LongEnough (sizes l) × ((b : Book) × AllowedBook b × (bytesOf b ≡ book) × ((i : ℕ) × FirstWrong b i × (r .place ≡ placeOf b i))))
+-- and `code` exactly where they keep the rules and `why` is the reason of the first item that is not accepted: only there, and always there, at the
+-- place of that item's record
+pub record ChecksWrong (code : ℕ) (why : Reason) (book : List ℕ) (l : Lent) (r : Reading) (l′ : Lent) : Type 0 where
+  pub only : r .code ≡ code → LongEnough (sizes l) × ((b : Book) × AllowedBook b × (bytesOf b ≡ book) × ((i : ℕ) × WrongFor b i why))
+  pub always : LongEnough (sizes l) → (b : Book) → AllowedBook b → bytesOf b ≡ book → (i : ℕ) → WrongFor b i why → r ≡ refusal code (placeOf b i)
 
 pub record CheckClaims (ρ : Routine) : Type 2 where
-  -- 01: "checking a book is reading and 8"
+  -- 01: "checking a book is reading and 8"; with 02, 8 or 12
   pub says : Always check.ended ρ (onRead Checks)
   pub zero : Always check.ended ρ (onRead ChecksZero)
-  pub eight : Always check.ended ρ (onRead ChecksEight)
+  pub eight : Always check.ended ρ (onRead (ChecksWrong 8 NoReversePlan))
+  pub twelve : Always check.ended ρ (onRead (ChecksWrong 12 NotEffective))
 
 -- writing answers 0 exactly where the buffers are long enough and table and slots hold an allowed book
 abbrev pub WritesZero : Write
@@ -141,7 +145,7 @@ pub record WriteClaims (ρ : Routine) : Type 2 where
   pub same-bytes : Always write.ended ρ (onWrite WriteBack)
 
 pub record AssembleClaims (ρ : Routine) : Type 2 where
-  -- every code of 01's table in its order, with every buffer as stated for it
+  -- every code of 01's table, and 02's 12, in their order, with every buffer as stated for it
   pub says : Always assemble.ended ρ (onAssemble (Assembles inBytes))
   -- demand 3, whole
   pub demand-three : Always assemble.ended ρ (onAssemble (Demand inBytes))

@@ -1,5 +1,7 @@
 -- The worked cases, of a call: evidence beside the claims. Assumes nothing: these are definitions.
 use mathlib.Core.Path.{_≡_}
+use mathlib.Core.List.{List}
+use Prim.Native.Nat.{ℕ}
 use Rattle.base.specs.Sizes.{LongEnough}
 use Rattle.reversal.specs.Runs.{Run}
 use Rattle.reversal.specs.Answers.{Answer}
@@ -8,16 +10,19 @@ use Rattle.book.specs.Example.{bytesQ}
 use Rattle.reader.specs.declared.Reading.{Reading}
 use Rattle.checker.specs.Cases.{Judges}
 use Rattle.runs.specs.RunBytes.{runBytes}
-use Rattle.assembly.specs.Lent.{LegForm, allSizes}
-use Rattle.assembly.specs.Assembles.{Left}
-use Rattle.assembly.specs.Cases.{BytesGive}
-use Rattle.claims.specs.Claims.{Read, Assemble}
+use Rattle.assembly.specs.declared.Assembly.{Assembly}
+use Rattle.assembly.specs.Lent.{LegForm, AllLent, allSizes}
+use Rattle.assembly.specs.Assembles.{refusal, Left}
+use Rattle.assembly.specs.Cases.{BytesGive, BookRefused}
+use Rattle.claims.specs.Claims.{Read}
 
 -- the books of checker/specs/Cases
 abbrev pub ChecksWorked : Read
 ChecksWorked book l r l′ = (answer : Reading) → Judges book answer → LongEnough (sizes l) → r ≡ answer
 
--- the runs of the joint table
-abbrev pub AssemblesWorked : {E : Type 0} → LegForm E → Assemble E
-AssemblesWorked form book run l r l′ =
-    (u : Run) (a : Answer) → BytesGive form u a → book ≡ bytesQ → run ≡ runBytes u → LongEnough (allSizes form l) → Left form a (l .room) r (l′ .room)
+-- the runs of the joint table, and the books that are refused
+pub record AssemblesWorked {E : Type 0} (form : LegForm E) (book run : List ℕ) (l : AllLent E) (r : Assembly) (l′ : AllLent E) : Type 0 where
+  pub run-of : (u : Run) (a : Answer) → BytesGive form u a → book ≡ bytesQ → run ≡ runBytes u → LongEnough (allSizes form l)
+      → Left form a (l .room) r (l′ .room)
+  pub refused : (code place : ℕ) → BookRefused form book code place → LongEnough (allSizes form l)
+      → (r ≡ refusal code place) × (l′ .room ≡ l .room)

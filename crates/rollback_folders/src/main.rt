@@ -1,10 +1,11 @@
-// Prints, for each folder of data/, its name and what the program `rollback` prints there. The file stdout was written from 01.
+// Prints, for each folder of data/, its name and what the program `rollback` prints there. The file stdout was written from 01 and 02.
 //
 // Q's book, with a run of 01:
 //   q8          "plan 0, items 3, 1": one command, two legs
 //   q9          code 11
 //   q11         an empty plan: an empty second line
 //   q2          the book with psi 3 in item 1, and Q5: 8 at that item's record
+//   q4          the book with the item of Q4 behind its items, and Q5: 12 at that item's record
 //   no_book     Q5 alone: an empty book
 //   no_run      no run.bin: an empty run
 //   run_folder  run.bin is a folder, which can't be read
@@ -29,6 +30,7 @@ fn main() {
     print_folder(b"q9");
     print_folder(b"q11");
     print_folder(b"q2");
+    print_folder(b"q4");
     print_folder(b"no_book");
     print_folder(b"no_run");
     print_folder(b"run_folder");

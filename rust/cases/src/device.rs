@@ -49,12 +49,18 @@ impl Device {
         states(set).fold(0, |union, s| union | self.outcomes(s, command))
     }
 
-    /// Whether the reverse commands undo the forward ones from this start.
-    pub fn undone(&self, start: usize, forward: &[u8], reverse: &[u8], phi: u64) -> bool {
-        let mut set = forward
+    /// The ends in phi that the forward commands can lead to from this start.
+    pub fn ends(&self, start: usize, forward: &[u8], phi: u64) -> u64 {
+        forward
             .iter()
             .fold(1 << start, |set, &c| self.after(set, c))
-            & phi;
+            & phi
+    }
+
+    /// Whether the reverse commands undo the forward ones from this start. They do where it has
+    /// no end.
+    pub fn undone(&self, start: usize, forward: &[u8], reverse: &[u8], phi: u64) -> bool {
+        let mut set = self.ends(start, forward, phi);
         if set == 0 {
             return true;
         }
@@ -69,13 +75,28 @@ impl Device {
 
     /// The starts from which the reverse commands undo the forward ones.
     pub fn undone_starts(&self, forward: &[u8], reverse: &[u8], phi: u64) -> u64 {
+        self.starts(|s| self.undone(s, forward, reverse, phi))
+    }
+
+    /// The starts that have an end.
+    pub fn effective_starts(&self, forward: &[u8], phi: u64) -> u64 {
+        self.starts(|s| self.ends(s, forward, phi) != 0)
+    }
+
+    fn starts(&self, wanted: impl Fn(usize) -> bool) -> u64 {
         (0..self.n)
-            .filter(|&s| self.undone(s, forward, reverse, phi))
+            .filter(|&s| wanted(s))
             .fold(0, |set, s| set | 1 << s)
     }
 
-    pub fn accepts(&self, item: &Item) -> bool {
-        states(item.psi).all(|s| self.undone(s, &item.forward, &item.reverse, item.phi))
+    /// Whether the item is a conditional reverse plan.
+    pub fn undoes(&self, item: &Item) -> bool {
+        item.psi & !self.undone_starts(&item.forward, &item.reverse, item.phi) == 0
+    }
+
+    /// Whether some start of the item has an end.
+    pub fn effective(&self, item: &Item) -> bool {
+        item.psi & self.effective_starts(&item.forward, item.phi) != 0
     }
 
     /// The possible states at each point; all zero where there is no history.

@@ -48,15 +48,30 @@ pub fn input(seed: u64) -> Input {
     } else {
         random_device(rng)
     };
-    let story = random_story(rng, &device);
+    let length = match rng.below(100) {
+        0..=4 => 0,
+        5..=34 => rng.within(1, 4),
+        35..=69 => rng.within(5, 12),
+        70..=89 => rng.within(13, 31),
+        _ => 32,
+    };
+    let mut story = random_story(rng, &device, length);
     let mut items = if largest {
         largest_items(rng, &device, &story)
     } else {
         random_items(rng, &device, &story)
     };
-    if rng.chance(9) {
-        spoil_item(rng, &device, &mut items);
+    // Items that are turned down: by 8, by 12, or one by each.
+    let wrong = rng.below(100);
+    if wrong < 11 {
+        let item = not_undoing(rng, &device, &items);
+        insert(rng, &mut items, item);
     }
+    if (6..22).contains(&wrong) {
+        let item = not_effective(rng, &device, &items);
+        insert(rng, &mut items, item);
+    }
+    spoil_story(rng, &device, &mut story);
 
     let mut records = book_records(&device, &items);
     let mut run = run_bytes(&story.commands, &story.sightings);
@@ -267,15 +282,9 @@ struct Story {
     padding: usize,
 }
 
-fn random_story(rng: &mut Rng, device: &Device) -> Story {
+/// So many commands, or fewer where the device is stuck. It has a history.
+fn random_story(rng: &mut Rng, device: &Device, length: usize) -> Story {
     let everything = all(device.n);
-    let length = match rng.below(100) {
-        0..=4 => 0,
-        5..=34 => rng.within(1, 4),
-        35..=69 => rng.within(5, 12),
-        70..=89 => rng.within(13, 31),
-        _ => 32,
-    };
     // A true history, which often goes round the same few commands.
     let period = if rng.chance(50) { rng.within(1, 4) } else { 32 };
     let mut trail = vec![rng.below(device.n)];
@@ -307,21 +316,6 @@ fn random_story(rng: &mut Rng, device: &Device) -> Story {
         sightings[0] = 1 << trail[0];
     }
 
-    // Now and then no history, or perhaps none.
-    match rng.below(100) {
-        0..=2 => *sightings.last_mut().unwrap() = 0,
-        3..=4 => sightings[rng.below(trail.len())] = 0,
-        5..=7 => sightings[rng.below(trail.len())] &= rng.word(),
-        8..=9 if !commands.is_empty() => {
-            let at = rng.below(commands.len());
-            commands[at] = rng.below(device.m) as u8;
-        }
-        10..=11 if !commands.is_empty() => {
-            let at = rng.within(1, commands.len());
-            sightings[at] &= !device.after(sightings[at - 1], commands[at - 1]);
-        }
-        _ => {}
-    }
     let possible = device.possible(&commands, &sightings);
     let padding = if rng.chance(8) { 40 } else { rng.below(4) };
     Story {
@@ -329,6 +323,30 @@ fn random_story(rng: &mut Rng, device: &Device) -> Story {
         sightings,
         possible,
         padding,
+    }
+}
+
+/// Now and then no history, or perhaps none. It comes after the items, so that they are those of a
+/// story that has one.
+fn spoil_story(rng: &mut Rng, device: &Device, story: &mut Story) {
+    let Story {
+        commands,
+        sightings,
+        ..
+    } = story;
+    let any = rng.below(sightings.len());
+    match rng.below(100) {
+        0..=2 => *sightings.last_mut().unwrap() = 0,
+        3..=4 => sightings[any] = 0,
+        5..=7 => sightings[any] &= rng.word(),
+        8..=9 if !commands.is_empty() => {
+            let at = rng.below(commands.len());
+            commands[at] = rng.below(device.m) as u8;
+        }
+        10..=11 if any > 0 => {
+            sightings[any] &= !device.after(sightings[any - 1], commands[any - 1]);
+        }
+        _ => {}
     }
 }
 
@@ -368,13 +386,13 @@ fn random_items(rng: &mut Rng, device: &Device, story: &Story) -> Vec<Item> {
             let upper = rng.within(1, top);
             let longest = if rng.chance(70) { 3 } else { 8 };
             let k = rng.within(1, upper.min(longest));
-            let mut item = fitting_item(rng, device, story, upper, k);
-            if let Some(item) = item.as_mut().filter(|_| rng.chance(12)) {
-                // Still accepted, but it may no longer fit.
-                item.phi &= rng.word() | rng.word();
-                item.psi &= rng.word() | rng.word();
+            let item = fitting_item(rng, device, story, upper, k);
+            // Still accepted, but it may no longer fit.
+            match rng.below(100) {
+                0..=9 => item.map(|item| narrowed(rng, device, item)),
+                10..=14 => item.map(|item| one_start_one_end(rng, device, item)),
+                _ => item,
             }
-            item
         } else {
             other_item(rng, device)
         };
@@ -478,38 +496,67 @@ fn find_reverse(
     Some(reverse)
 }
 
-/// An accepted item of any commands; psi is narrowed until it is.
-fn other_item(rng: &mut Rng, device: &Device) -> Option<Item> {
-    let commands = |rng: &mut Rng, low, high| -> Vec<u8> {
-        let high = if rng.chance(80) { 3 } else { high };
-        (0..rng.within(low, high))
-            .map(|_| rng.below(device.m) as u8)
-            .collect()
+/// Fewer states in phi and psi, if some start still has an end.
+fn narrowed(rng: &mut Rng, device: &Device, item: Item) -> Item {
+    let less = Item {
+        phi: item.phi & (rng.word() | rng.word()),
+        psi: item.psi & (rng.word() | rng.word()),
+        ..item.clone()
     };
-    let forward = commands(rng, 1, 8);
-    let reverse = commands(rng, 0, 8);
-    let phi = [all(device.n), rng.word() & all(device.n), 0][rng.below(5) / 2];
-    let good = device.undone_starts(&forward, &reverse, phi);
-    let psi = if rng.chance(50) {
-        good
+    if device.effective(&less) {
+        less
     } else {
-        good & rng.word()
-    };
-    Some(Item {
-        forward,
-        reverse,
-        phi,
-        psi,
-    })
+        item
+    }
 }
 
-/// Makes an item, or a new one, likely to be turned down.
-fn spoil_item(rng: &mut Rng, device: &Device, items: &mut Vec<Item>) {
-    for _ in 0..20 {
-        let mut item = match items.len() {
-            0 => other_item(rng, device).unwrap(),
-            count => items[rng.below(count)].clone(),
-        };
+/// One start and one end of the item. The other states of phi are no ends of this start, the other
+/// states of psi have no end.
+fn one_start_one_end(rng: &mut Rng, device: &Device, item: Item) -> Item {
+    let start = rng.state_of(item.psi & device.effective_starts(&item.forward, item.phi));
+    let ends = device.ends(start, &item.forward, all(device.n));
+    let end = rng.state_of(ends & item.phi);
+    let phi = 1 << end | rng.word() & all(device.n) & !ends;
+    let others = all(device.n) & !device.effective_starts(&item.forward, phi);
+    Item {
+        phi,
+        psi: 1 << start | rng.word() & others,
+        ..item
+    }
+}
+
+/// An accepted item of other commands than the run's, if one is found.
+fn other_item(rng: &mut Rng, device: &Device) -> Option<Item> {
+    let longest = if rng.chance(80) { 3 } else { 8 };
+    let length = rng.within(1, longest);
+    let story = random_story(rng, device, length);
+    match story.commands.len() {
+        0 => None,
+        k => fitting_item(rng, device, &story, k, k),
+    }
+}
+
+// Items that are turned down
+
+/// Anywhere among the items, of which at most 64 stay.
+fn insert(rng: &mut Rng, items: &mut Vec<Item>, item: Option<Item>) {
+    let at = rng.within(0, items.len());
+    items.splice(at..at, item);
+    items.truncate(64);
+}
+
+/// One of the items; where there is none, another, if one is found.
+fn any_item(rng: &mut Rng, device: &Device, items: &[Item]) -> Option<Item> {
+    match items.len() {
+        0 => other_item(rng, device),
+        count => Some(items[rng.below(count)].clone()),
+    }
+}
+
+/// An item that is no conditional reverse plan, if one is found: code 8.
+fn not_undoing(rng: &mut Rng, device: &Device, items: &[Item]) -> Option<Item> {
+    (0..20).find_map(|_| {
+        let mut item = any_item(rng, device, items)?;
         match rng.below(7) {
             // Where the command can't be carried out everywhere, stuck.
             5..=6 if item.reverse.len() < 8 => {
@@ -528,13 +575,44 @@ fn spoil_item(rng: &mut Rng, device: &Device, items: &mut Vec<Item>) {
                 item.psi = all(device.n);
             }
         }
-        if !device.accepts(&item) {
-            let at = rng.within(0, items.len());
-            items.insert(at, item);
-            items.truncate(64);
-            return;
+        Some(item).filter(|item| !device.undoes(item))
+    })
+}
+
+/// An item of which no start has an end, if one is found: code 12.
+fn not_effective(rng: &mut Rng, device: &Device, items: &[Item]) -> Option<Item> {
+    (0..20).find_map(|_| {
+        let mut item = any_item(rng, device, items)?;
+        let (phi, psi) = (item.phi, item.psi);
+        match rng.below(9) {
+            0 => item.phi = 0,
+            1 => item.psi = 0,
+            // One forward command is another.
+            2..=4 => {
+                let at = rng.below(item.forward.len());
+                item.forward[at] = rng.below(device.m) as u8;
+            }
+            // Other states before.
+            5..=6 => {
+                let more = psi | rng.word() & all(device.n);
+                item.psi = more & !device.effective_starts(&item.forward, phi);
+            }
+            // Other states after.
+            _ => {
+                let ends = item
+                    .forward
+                    .iter()
+                    .fold(psi, |set, &c| device.after(set, c));
+                item.phi = (phi | rng.word() & all(device.n)) & !ends;
+            }
         }
-    }
+        // Nothing comes of the reverse commands, right or wrong.
+        if rng.chance(30) {
+            let count = rng.within(0, 8);
+            item.reverse = (0..count).map(|_| rng.below(device.m) as u8).collect();
+        }
+        Some(item).filter(|item| !device.effective(item))
+    })
 }
 
 /// 64 items with k = r = 8, some of which fit the run.
@@ -615,11 +693,14 @@ fn damage_records(rng: &mut Rng, device: &Device, records: &mut Vec<Vec<u8>>) {
             1 if !moves.is_empty() => {
                 let at = *rng.pick(&moves);
                 let mut twice = records[at].clone();
-                twice[6] ^= rng.byte() & 1;
+                // A record that was damaged before may have no such byte.
+                if let Some(byte) = twice.get_mut(6) {
+                    *byte ^= rng.byte() & 1;
+                }
                 records.insert(at + 1, twice);
             }
             _ => {
-                let at = 1 + moves.len();
+                let at = records.len().min(1 + moves.len());
                 records.insert(at, move_record(0, 0, 1));
                 records.insert(at, move_record(0, 0, 1));
             }

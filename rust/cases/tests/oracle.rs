@@ -27,6 +27,12 @@ struct Book {
     items: Vec<Item>,
 }
 
+/// What an item is refused with, or 0, and its pairs of a start and an end.
+struct Judged {
+    code: u64,
+    pairs: usize,
+}
+
 /// Steps left before a seed is given up.
 struct Fuel(u64);
 
@@ -187,15 +193,26 @@ impl Book {
         Some(true)
     }
 
-    fn accepts(&self, item: &Item, fuel: &mut Fuel) -> Option<bool> {
+    /// Lists the starts of an item, each with its ends.
+    fn judge(&self, item: &Item, fuel: &mut Fuel) -> Option<Judged> {
+        let (mut pairs, mut undone) = (BTreeSet::new(), true);
         for &start in &item.psi {
             for end in self.ends(start, &item.forward, fuel)? {
-                if item.phi.contains(&end) && !self.returns(end, &item.reverse, start, fuel)? {
-                    return Some(false);
+                if item.phi.contains(&end) {
+                    pairs.insert((start, end));
+                    undone = undone && self.returns(end, &item.reverse, start, fuel)?;
                 }
             }
         }
-        Some(true)
+        let code = match (undone, pairs.len()) {
+            (false, _) => 8,
+            (true, 0) => 12,
+            (true, _) => 0,
+        };
+        Some(Judged {
+            code,
+            pairs: pairs.len(),
+        })
     }
 
     /// Lists the histories that go on from a path and notes what they have.
@@ -293,16 +310,106 @@ fn chains(
     Some(())
 }
 
+/// What assembling finds for a run.
+struct Planned {
+    fewest: [u16; 33],
+    plan: Vec<u8>,
+    legs: Vec<[u8; 3]>,
+}
+
+const NOTHING: Planned = Planned {
+    fewest: [65_535; 33],
+    plan: vec![],
+    legs: vec![],
+};
+
+/// The code, and what is found, if every item is accepted.
+fn planned(book: &Book, run: &[u8], fuel: &mut Fuel) -> Option<(u64, Planned)> {
+    let Some(run) = parse_run(run, book) else {
+        return Some((9, NOTHING));
+    };
+    let i = run.commands.len();
+    let mut possible = vec![Set::new(); i + 1];
+    book.histories(&run, &mut vec![], &mut possible, fuel)?;
+    if possible[i].is_empty() {
+        return Some((10, NOTHING));
+    }
+    let mut answer = NOTHING;
+    let mut top = None;
+    for point in 0..=i {
+        let mut best = None;
+        chains(book, &run, &possible, point, &mut vec![], &mut best, fuel)?;
+        if let Some((commands, _)) = best {
+            answer.fewest[point] = commands as u16;
+        }
+        top = best;
+    }
+    let Some((_, list)) = top else {
+        return Some((11, answer));
+    };
+    let mut upper = i;
+    for number in list {
+        let item = &book.items[number];
+        let lower = upper - item.forward.len();
+        answer.plan.extend(item.reverse.iter().map(|&c| c as u8));
+        answer.legs.push([number as u8, upper as u8, lower as u8]);
+        upper = lower;
+    }
+    Some((0, answer))
+}
+
 /// What every call on a book must answer, and what it must leave behind.
 struct Expected {
     read: [u64; 5],
     check: [u64; 5],
-    assemble: [u64; 4],
-    fewest: [u16; 33],
-    plan: Vec<u8>,
-    legs: Vec<[u8; 3]>,
+    /// Code and place.
+    assemble: [u64; 2],
+    planned: Planned,
     /// Where table and slots are read.
     filled: Option<(Vec<u64>, Vec<u8>)>,
+    /// In which of [`PLACES`] the input is.
+    places: [bool; PLACES.len()],
+}
+
+/// Items that can never be used: where they stand, and why; and items that just can be used.
+const PLACES: [&str; 10] = [
+    "12 alone",
+    "12 before 8",
+    "8 before 12",
+    "12, phi zero",
+    "12, psi zero",
+    "12, neither zero",
+    "12 before 9",
+    "12 before 10",
+    "12 before 11",
+    "a plan by an item with one start that has one end, among other states",
+];
+
+/// `code` and `legs` are those of the run if every item is accepted.
+fn places(book: &Book, judged: &[Judged], code: u64, legs: &[[u8; 3]]) -> [bool; PLACES.len()] {
+    let first = |code| judged.iter().position(|item| item.code == code);
+    let (eight, twelve) = (first(8), first(12));
+    let before = |a: Option<usize>, b: Option<usize>| a.is_some_and(|a| b.is_some_and(|b| a < b));
+    let refused = twelve.filter(|_| !before(eight, twelve));
+    let zero = |of: fn(&Item) -> &Set| refused.map(|at| of(&book.items[at]).is_empty());
+    let (phi, psi) = (zero(|item| &item.phi), zero(|item| &item.psi));
+    let just_effective = |leg: &[u8; 3]| {
+        let at = leg[0] as usize;
+        let item = &book.items[at];
+        judged[at].pairs == 1 && item.phi.len() > 1 && item.psi.len() > 1
+    };
+    [
+        refused.is_some() && eight.is_none(),
+        before(twelve, eight),
+        before(eight, twelve),
+        phi == Some(true),
+        psi == Some(true),
+        phi == Some(false) && psi == Some(false),
+        refused.is_some() && code == 9,
+        refused.is_some() && code == 10,
+        refused.is_some() && code == 11,
+        eight.is_none() && twelve.is_none() && legs.iter().any(just_effective),
+    ]
 }
 
 fn expected(input: &Input) -> Option<Expected> {
@@ -310,16 +417,14 @@ fn expected(input: &Input) -> Option<Expected> {
     let mut answer = Expected {
         read: [0; 5],
         check: [0; 5],
-        assemble: [0; 4],
-        fewest: [65_535; 33],
-        plan: vec![],
-        legs: vec![],
+        assemble: [1, 0],
+        planned: NOTHING,
         filled: None,
+        places: [false; PLACES.len()],
     };
     if input.table.len() < 2048 || input.slots.len() < 2176 {
         answer.read[0] = 1;
         answer.check[0] = 1;
-        answer.assemble[0] = 1;
         return Some(answer);
     }
     let lent = input.plan.len() >= 256 && input.legs.len() >= 96;
@@ -328,7 +433,9 @@ fn expected(input: &Input) -> Option<Expected> {
         Err((code, place)) => {
             answer.read[..2].copy_from_slice(&[code, place as u64]);
             answer.check = answer.read;
-            answer.assemble[..2].copy_from_slice(if lent { &answer.read[..2] } else { &[1, 0] });
+            if lent {
+                answer.assemble = [code, place as u64];
+            }
             return Some(answer);
         }
     };
@@ -344,60 +451,25 @@ fn expected(input: &Input) -> Option<Expected> {
     answer.filled = Some((table, slots));
     answer.read = [0, 0, book.n as u64, book.m as u64, book.items.len() as u64];
     answer.check = answer.read;
-    for item in &book.items {
-        if !book.accepts(item, &mut fuel)? {
-            answer.check = [8, item.place as u64, 0, 0, 0];
-            break;
-        }
+    let judged: Option<Vec<Judged>> = (book.items.iter())
+        .map(|item| book.judge(item, &mut fuel))
+        .collect();
+    let judged = judged?;
+    let wrong = judged.iter().position(|item| item.code != 0);
+    if let Some(wrong) = wrong {
+        let place = book.items[wrong].place as u64;
+        answer.check = [judged[wrong].code, place, 0, 0, 0];
     }
     if !lent {
-        answer.assemble[0] = 1;
         return Some(answer);
     }
-    answer.assemble[..2].copy_from_slice(&answer.check[..2]);
-    if answer.check[0] == 8 {
-        return Some(answer);
-    }
-    let Some(run) = parse_run(&input.run, &book) else {
-        answer.assemble[0] = 9;
-        return Some(answer);
-    };
-    let i = run.commands.len();
-    let mut possible = vec![Set::new(); i + 1];
-    book.histories(&run, &mut vec![], &mut possible, &mut fuel)?;
-    if possible[i].is_empty() {
-        answer.assemble[0] = 10;
-        return Some(answer);
-    }
-    let mut top = None;
-    for point in 0..=i {
-        let mut best = None;
-        chains(
-            &book,
-            &run,
-            &possible,
-            point,
-            &mut vec![],
-            &mut best,
-            &mut fuel,
-        )?;
-        if let Some((commands, _)) = best {
-            answer.fewest[point] = commands as u16;
-        }
-        top = best;
-    }
-    let Some((commands, list)) = top else {
-        answer.assemble[0] = 11;
-        return Some(answer);
-    };
-    answer.assemble = [0, 0, commands as u64, list.len() as u64];
-    let mut upper = i;
-    for number in list {
-        let item = &book.items[number];
-        let lower = upper - item.forward.len();
-        answer.plan.extend(item.reverse.iter().map(|&c| c as u8));
-        answer.legs.push([number as u8, upper as u8, lower as u8]);
-        upper = lower;
+    let (code, planned) = planned(&book, &input.run, &mut fuel)?;
+    answer.places = places(&book, &judged, code, &planned.legs);
+    if wrong.is_some() {
+        answer.assemble.copy_from_slice(&answer.check[..2]);
+    } else {
+        answer.assemble[0] = code;
+        answer.planned = planned;
     }
     Some(answer)
 }
@@ -411,7 +483,8 @@ fn over<T: Clone>(before: &[T], start: &[T]) -> Vec<T> {
 
 #[test]
 fn books_and_runs() {
-    let mut codes = [0; 12];
+    let mut codes = [0; 13];
+    let mut met = [0; PLACES.len()];
     let (mut skipped, mut two_legs) = (0, 0);
     for seed in 0..SEEDS {
         let input = input(seed);
@@ -456,18 +529,26 @@ fn books_and_runs() {
             &mut plan,
             &mut legs,
         );
-        let head = [found.code, found.place, found.commands, found.legs];
+        let Planned {
+            fewest,
+            plan: expected_plan,
+            legs: expected_legs,
+        } = &expected.planned;
+        let head = [found.code, found.place];
         assert_eq!(head, expected.assemble, "assembling, seed {seed}");
-        assert_eq!(found.fewest, expected.fewest, "assembling, seed {seed}");
+        let counts = [found.commands as usize, found.legs as usize];
+        let expected_counts = [expected_plan.len(), expected_legs.len()];
+        assert_eq!(counts, expected_counts, "assembling, seed {seed}");
+        assert_eq!(found.fewest, *fewest, "assembling, seed {seed}");
         assert!(
             (&table, &slots) == (&left.0, &left.1),
             "after assembling, seed {seed}"
         );
-        let expected_plan = over(&input.plan, &expected.plan);
+        let expected_plan = over(&input.plan, expected_plan);
         assert_eq!(plan, expected_plan, "plan, seed {seed}");
         assert_eq!(
             legs,
-            over(&input.legs, &expected.legs.concat()),
+            over(&input.legs, &expected_legs.concat()),
             "legs, seed {seed}"
         );
 
@@ -492,14 +573,21 @@ fn books_and_runs() {
         let bytes: Vec<[u8; 3]> = legs.iter().map(|l| [l.item, l.upper, l.lower]).collect();
         assert_eq!(
             bytes,
-            over(&input.leg_structs, &expected.legs),
+            over(&input.leg_structs, expected_legs),
             "leg structs, seed {seed}"
         );
 
         codes[found.code as usize] += 1;
         two_legs += usize::from(found.legs >= 2);
+        for (count, is_there) in met.iter_mut().zip(expected.places) {
+            *count += usize::from(is_there);
+        }
     }
     println!("{SEEDS} seeds, {skipped} skipped, codes {codes:?}, {two_legs} with two legs or more");
+    for (place, count) in PLACES.iter().zip(met) {
+        println!("{place}: {count}");
+        assert!(count >= 50, "{place}: {count}");
+    }
     assert!(skipped < SEEDS / 3, "{skipped} skipped");
     assert!(codes.iter().all(|&count| count >= 100), "{codes:?}");
     assert!(two_legs >= 800, "{two_legs}");

@@ -7,9 +7,12 @@ use std::mem::swap;
 /// For each state, the starts that may have led to it.
 type Starts = [u64; 64];
 
+/// Gives 8 for an item that is no conditional reverse plan, and 12 for one that
+/// is, but not an effective one.
+///
 /// All starts in psi go forward and back at once, and each state carries the
 /// set of starts that may have led there, so that no start loses its own ends.
-pub(crate) fn accepted(table: &[u64], m: usize, slot: &Slot) -> bool {
+pub(crate) fn judge(table: &[u64], m: usize, slot: &Slot) -> Result<(), u64> {
     let (now, next) = (&mut [0; 64], &mut [0; 64]);
     let (mut now, mut next): (&mut Starts, &mut Starts) = (now, next);
 
@@ -23,16 +26,23 @@ pub(crate) fn accepted(table: &[u64], m: usize, slot: &Slot) -> bool {
         swap(&mut now, &mut next);
     }
     live &= slot::phi(slot);
+    // "at least one start in psi must reach an end in phi"
+    if live == 0 {
+        return Err(12);
+    }
     for &command in slot::reverse(slot) {
         let stuck;
         (live, stuck) = step(table, m, command, live, now, next);
         if stuck {
-            return false;
+            return Err(8);
         }
         swap(&mut now, &mut next);
     }
     // "every complete one must end in S"
-    states(live).all(|s| now[s] == 1 << s)
+    if states(live).any(|s| now[s] != 1 << s) {
+        return Err(8);
+    }
+    Ok(())
 }
 
 /// Carries the command out from every live state. Gives the live states after

@@ -1,6 +1,6 @@
 //! Reading a book into table and slots, and checking its items.
 
-use crate::accept::accepted;
+use crate::accept::judge;
 use crate::sets::all;
 use crate::slot::{self, Slot};
 use crate::{Fault, Reading, ITEMS, SLOTS, TABLE};
@@ -26,7 +26,7 @@ pub fn read(book: &[u8], table: &mut [u64], slots: &mut [u8]) -> Reading {
     answer(read_book(book, table, slots))
 }
 
-/// "checking a book is reading and 8"
+/// "checking a book is reading and 8"; 12 is "judged item by item beside 8"
 pub fn check(book: &[u8], table: &mut [u64], slots: &mut [u8]) -> Reading {
     answer(check_book(book, table, slots))
 }
@@ -64,9 +64,7 @@ pub(crate) fn check_book(book: &[u8], table: &mut [u64], slots: &mut [u8]) -> Re
     let found = read_book(book, table, slots)?;
     let mut place = DEVICE_SIZE + MOVE_SIZE * found.moves;
     for slot in used(slots, found.items) {
-        if !accepted(table, found.m, slot) {
-            return Err(Fault::new(8, place));
-        }
+        judge(table, found.m, slot).map_err(|code| Fault::new(code, place))?;
         place += slot::record_size(slot);
     }
     Ok(found)

@@ -1,5 +1,5 @@
-//! The marked twelve cases on the small device Q, and facts of the two
-//! devices with a constant table.
+//! The marked twelve cases on the small device Q, items that can never be used,
+//! and facts of the two devices with a constant table.
 
 use super::*;
 
@@ -53,13 +53,17 @@ fn checked(items: &[Item]) -> Reading {
     check(&book(items), &mut [0; 2048], &mut [0; 2176])
 }
 
+/// On Q: code, plan and legs.
+fn assembled(commands: &[u8], sightings: &[u64]) -> (Assembly, Vec<u8>, Vec<[u8; 3]>) {
+    assembled_of(&book(&Q), &run(commands, sightings))
+}
+
 /// Code, plan and legs; both forms of the legs must agree, and what lies past
 /// the counts must stay.
-fn assembled(commands: &[u8], sightings: &[u64]) -> (Assembly, Vec<u8>, Vec<[u8; 3]>) {
-    let (book, run) = (book(&Q), run(commands, sightings));
+fn assembled_of(book: &[u8], run: &[u8]) -> (Assembly, Vec<u8>, Vec<[u8; 3]>) {
     let (mut table, mut slots) = ([0; 2048], [0; 2176]);
     let (mut plan, mut legs) = ([77; 256], [78; 96]);
-    let result = assemble(&book, &run, &mut table, &mut slots, &mut plan, &mut legs);
+    let result = assemble(book, run, &mut table, &mut slots, &mut plan, &mut legs);
     let (commands, count) = (result.commands as usize, result.legs as usize);
     assert!(plan[commands..].iter().all(|&b| b == 77));
     assert!(legs[3 * count..].iter().all(|&b| b == 78));
@@ -70,14 +74,7 @@ fn assembled(commands: &[u8], sightings: &[u64]) -> (Assembly, Vec<u8>, Vec<[u8;
         lower: 78,
     }; 32];
     let mut again = [77; 256];
-    let second = assemble_legs(
-        &book,
-        &run,
-        &mut table,
-        &mut slots,
-        &mut again,
-        &mut structs,
-    );
+    let second = assemble_legs(book, run, &mut table, &mut slots, &mut again, &mut structs);
     assert_eq!((result, plan), (second, again));
     for (leg, bytes) in structs.iter().zip(legs.chunks(3)) {
         assert_eq!([leg.item, leg.upper, leg.lower], bytes);
@@ -112,33 +109,101 @@ fn q1_all_five_are_accepted() {
     assert_eq!(checked(&Q), good);
 }
 
-#[test]
-fn q2_item_1_with_psi_3_is_not() {
-    let bad = Reading {
-        code: 8,
-        place: 104,
+fn refused(code: u64, place: u64) -> Reading {
+    Reading {
+        code,
+        place,
         n: 0,
         m: 0,
         items: 0,
-    };
-    assert_eq!(checked(&[(&[1], &[0], 7, 3)]), bad);
-    assert_eq!(
-        checked(&[Q[0], (&[1], &[0], 7, 3)]),
-        Reading {
-            place: 104 + 25,
-            ..bad
-        }
-    );
+    }
+}
+
+/// Q2, Q3 and Q4 of the marked twelve.
+const PSI_3: Item = (&[1], &[0], 7, 3);
+const STUCK: Item = (&[2], &[2], 7, 7);
+const NO_TRAJECTORY: Item = (&[2, 2], &[], 7, 7);
+
+#[test]
+fn q2_item_1_with_psi_3_is_not() {
+    assert_eq!(checked(&[PSI_3]), refused(8, 104));
+    assert_eq!(checked(&[Q[0], PSI_3]), refused(8, 104 + 25));
 }
 
 #[test]
 fn q3_stuck_is_not() {
-    assert_eq!(checked(&[(&[2], &[2], 7, 7)]).code, 8);
+    assert_eq!(checked(&[STUCK]), refused(8, 104));
 }
 
 #[test]
-fn q4_no_trajectory_is() {
-    assert_eq!(checked(&[(&[2, 2], &[], 7, 7)]).code, 0);
+fn q4_no_trajectory_is_not_effective() {
+    assert_eq!(checked(&[NO_TRAJECTORY]), refused(12, 104));
+    assert_eq!(checked(&[Q[0], NO_TRAJECTORY]), refused(12, 104 + 25));
+}
+
+#[test]
+fn one_start_and_one_end_are_enough() {
+    // Command 2 leads from state 0 alone, to 1 or 2.
+    for (phi, psi) in [(4, 1), (4, 7), (5, 7), (2, 3)] {
+        assert_eq!(checked(&[(&[2], &[0], phi, psi)]).code, 0);
+    }
+    for (phi, psi) in [(1, 1), (1, 7), (4, 6), (7, 6), (7, 0), (0, 7), (0, 0)] {
+        assert_eq!(checked(&[(&[2], &[0], phi, psi)]), refused(12, 104));
+    }
+}
+
+#[test]
+fn without_an_end_no_reverse_is_wrong() {
+    // With an end, these reverse commands are stuck and end elsewhere.
+    for reverse in [[2], [1]] {
+        assert_eq!(checked(&[(&[2], &reverse, 7, 1)]).code, 8);
+        assert_eq!(checked(&[(&[2], &reverse, 1, 1)]).code, 12);
+    }
+}
+
+#[test]
+fn the_first_wrong_item_decides() {
+    assert_eq!(checked(&[NO_TRAJECTORY, STUCK]), refused(12, 104));
+    assert_eq!(checked(&[STUCK, NO_TRAJECTORY]), refused(8, 104));
+    assert_eq!(
+        checked(&[Q[3], NO_TRAJECTORY, PSI_3]),
+        refused(12, 104 + 23)
+    );
+    assert_eq!(checked(&[Q[3], PSI_3, NO_TRAJECTORY]), refused(8, 104 + 23));
+}
+
+#[test]
+fn a_wrong_item_leaves_table_and_slots_read() {
+    for (item, code) in [(STUCK, 8), (NO_TRAJECTORY, 12)] {
+        let book = book(&[Q[0], item, Q[1]]);
+        let (mut table, mut slots) = ([u64::MAX; 2048], [255; 2176]);
+        assert_eq!(read(&book, &mut table, &mut slots).code, 0);
+        let after_reading = (table, slots);
+        let (mut table, mut slots) = ([u64::MAX; 2048], [255; 2176]);
+        assert_eq!(check(&book, &mut table, &mut slots).code, code);
+        assert_eq!((table, slots), after_reading);
+    }
+}
+
+/// No run, no history, no chain, a plan: the item goes before them.
+#[test]
+fn a_wrong_item_goes_before_the_run() {
+    let runs = [
+        (vec![], 9),
+        (run(&[2, 2], &[7, 7, 7]), 10),
+        (run(&[1], &[7, 7]), 11),
+        (run(&[2, 1], &[7, 7, 7]), 0),
+    ];
+    for (run, alone) in &runs {
+        assert_eq!(assembled_of(&book(&Q), run).0.code, *alone);
+        for (item, code) in [(STUCK, 8), (NO_TRAJECTORY, 12)] {
+            let items = [Q.to_vec(), vec![item]].concat();
+            let (result, ..) = assembled_of(&book(&items), run);
+            assert_eq!((result.code, result.place), (code, 225));
+            assert_eq!((result.commands, result.legs), (0, 0));
+            assert_eq!(result.fewest, fewest(&[]));
+        }
+    }
 }
 
 #[test]

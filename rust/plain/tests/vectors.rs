@@ -27,7 +27,7 @@ fn portable_masks_are_the_same() {
 #[test]
 fn books_are_read_and_checked() {
     let cases = book_cases();
-    assert_eq!(cases.len(), 900);
+    assert_eq!(cases.len(), 600);
     for (number, case) in cases.iter().enumerate() {
         let (mut table, mut slots) = (case.table.clone(), case.slots.clone());
         let found = read(&case.book, &mut table, &mut slots);
@@ -90,7 +90,7 @@ fn books_are_written() {
 #[test]
 fn plans_are_assembled() {
     let cases = assemble_cases();
-    assert_eq!(cases.len(), 1626);
+    assert_eq!(cases.len(), 900);
     for (number, case) in cases.iter().enumerate() {
         let (mut table, mut slots) = (vec![7; 2048], vec![8; 2176]);
         let (mut plan, mut legs) = (vec![201; 256], vec![202; 96]);

@@ -5,10 +5,10 @@ use Rattle.case_vectors.proofs.main.Statement.{statement}
 use Rattle.case_vectors.proofs.main.Tie as tie
 
 abbrev Inv-loop : tie.InvT-loop
-Inv-loop file counter₀ counter = counter ≤ 1626
+Inv-loop file counter₀ counter = counter ≤ 900
 
 abbrev μ-loop : tie.MeasureT-loop
-μ-loop file counter₀ counter = 1626 - counter
+μ-loop file counter₀ counter = 900 - counter
 
 open-read-requires : tie.Need-open-read-requires Inv-loop μ-loop
 open-read-requires c κs = search needs

@@ -1,6 +1,7 @@
--- `first_wrong` meets its contract. Invariants: the items passed are accepted; the starts passed come back, of whatever item stands there; the
--- set is that after the forward commands passed. Assumes nothing.
-use mathlib.Core.Path.{_≡_, refl, sym, ap, _∙_}
+-- `first_wrong` meets its contract. Invariants: the items passed are accepted; the starts passed come back, and whether some of them was used, of
+-- whatever item stands there; the set is that after the forward commands passed. Assumes nothing.
+use mathlib.Core.Path.{_≡_, refl, sym, ap, _∙_, subst⁻¹}
+use mathlib.Core.Bool.{true}
 use mathlib.Core.Logic.{⊎-elim}
 use mathlib.Core.List.{List}
 use Prim.Native.Nat.{ℕ, _+_, _-_, _^_, _≤_, _<_}
@@ -8,16 +9,18 @@ use native.Mathlib.Omega.{arith}
 use borrow.Author.Needs.{needs}
 use borrow.Author.Tests.{not-true, not-false}
 use lib.ListN.{length}
-use Rattle.base.specs.Bounded.{all}
 use Rattle.base.specs.Masks.{member}
 use Rattle.reversal.specs.Device.{tabled}
+use Rattle.reversal.specs.Reversal.{Item}
 use Rattle.reversal.specs.Chains.{item}
+use Rattle.reversal.specs.Computed.Sets.{reverses, effective}
 use Rattle.states.specs.declared.StateSet.{StateSet}
 use Rattle.book.specs.Book.{Book, AllowedBook, bytesOf}
 use Rattle.items.specs.Items.{ItemStands, Fields}
+use Rattle.checker.specs.declared.Reason.the-variants.{NoReversePlan, NotEffective}
 use Rattle.checker.specs.declared.Judgement.the-variants.{AllAccepted}
-use Rattle.checker.proofs.Items.{Reached, Ended, Passed, reach-start, reach-next, reach-all, start-out, start-none, start-back, start-fails, starts-done}
-use Rattle.checker.proofs.Judging.{Walking, at-first, stands, at-next, none-wrong, found}
+use Rattle.checker.proofs.Items.{Reached, Ended, Passed, none-passed, reach-start, reach-next, reach-all, start-out, start-none, start-back, start-fails, starts-done}
+use Rattle.checker.proofs.Judging.{passes-both, not-reversed, not-used, Walking, at-first, stands, at-next, none-wrong, found}
 use Rattle.checker.proofs.first_wrong.Statement.{statement}
 use Rattle.checker.proofs.first_wrong.Tie as tie
 use Rattle.checker.proofs.first_wrong.Reads as reads
@@ -34,16 +37,16 @@ use Rattle.states.proofs.StateSet.of.Reads as of-reads
 use Rattle.states.proofs.StateSet.within.Reads as within-reads
 
 abbrev Inv-loop2 : tie.InvT-loop2
-Inv-loop2 book table n m at found item forward reverse start set₀ j₀ j-end set j = (j ≤ j-end) × Reached n m table book item start set j
+Inv-loop2 book table n m at found item forward reverse used start set₀ j₀ j-end set j = (j ≤ j-end) × Reached n m table book item start set j
 
 abbrev μ-loop2 : tie.MeasureT-loop2
-μ-loop2 book table n m at found item forward reverse start set₀ j₀ j-end set j = j-end - j
+μ-loop2 book table n m at found item forward reverse used start set₀ j₀ j-end set j = j-end - j
 
 abbrev Inv-loop : tie.InvT-loop
-Inv-loop book table n m at found₀ item forward reverse start₀ found start = (found ≡ AllAccepted) × (start ≤ n) × Passed n m table book item start
+Inv-loop book table n m at found₀ item forward reverse used₀ start₀ found used start = (found ≡ AllAccepted) × (start ≤ n) × Passed n m table book item start used
 
 abbrev μ-loop : tie.MeasureT-loop
-μ-loop book table n m at found₀ item forward reverse start₀ found start = n - start
+μ-loop book table n m at found₀ item forward reverse used₀ start₀ found used start = n - start
 
 abbrev Inv-items : tie.InvT-items
 Inv-items book table n m at₀ found₀ at found =
@@ -120,8 +123,8 @@ item-at-requires : tie.Need-item-at-requires Inv-loop2 μ-loop2 Inv-loop μ-loop
 item-at-requires c κs = search needs
 
 loop-holds : tie.Need-loop-holds Inv-loop2 μ-loop2 Inv-loop μ-loop Inv-items μ-items
-unfolding all
-loop-holds c = (c .before .before .items .inv .0, omega arith, λ x f. refl)
+loop-holds c =
+    (c .before .before .items .inv .0, omega arith, none-passed (nOf c) (mOf c) (tableOf c) (bookOf c) (c .item-at .result))
 
 of-requires : tie.Need-of-requires Inv-loop2 μ-loop2 Inv-loop μ-loop Inv-items μ-items
 of-requires c κs = search needs
@@ -216,33 +219,46 @@ loop-again : tie.Need-loop-again Inv-loop2 μ-loop2 Inv-loop μ-loop Inv-items �
 loop-again c =
     let i = c .before .before .before .before .before in
     let S = c .before .before .before .before .loop .start in
-    let passed = c .before .before .before .before .loop .inv .2 in (
+    let passed = c .before .before .before .before .loop .inv .2 in
+    let now = Passed (nOf i) (mOf i) (tableOf i) (bookOf i) (i .item-at .result) (S + 1) in (
       c .before .before .before .before .loop .inv .0,
       omega arith,
       ⊎-elim
-          (λ w. start-back (nOf i) (mOf i) (tableOf i) (bookOf i) (i .item-at .result) S (w .5 .result .mask)
+          (λ w. subst⁻¹ now (w .12)
+          (start-back (nOf i) (mOf i) (tableOf i) (bookOf i) (i .item-at .result) S (w .5 .result .mask)
           (reach-all (nOf i) (mOf i) (tableOf i) (bookOf i) (i .item-at .result) S (w .3 .set) _ (w .3 .j) (omega arith) (w .3 .inv .1) (w .5 .ensures))
-          passed (sym (w .10 .ensures) ∙ not-false _ (w .11 .left)))
+          (sym (has-is (c .before)) ∙ w .0 .taken) (sym (w .6 .ensures) ∙ not-true _ (w .7 .taken)) passed (sym (w .10 .ensures) ∙ not-false _ (w .11 .left))))
           (⊎-elim
-          (λ w. start-none (nOf i) (mOf i) (tableOf i) (bookOf i) (i .item-at .result) S (w .5 .result .mask)
+          (λ w. subst⁻¹ now (w .8)
+          (start-none (nOf i) (mOf i) (tableOf i) (bookOf i) (i .item-at .result) S (w .5 .result .mask)
           (reach-all (nOf i) (mOf i) (tableOf i) (bookOf i) (i .item-at .result) S (w .3 .set) _ (w .3 .j) (omega arith) (w .3 .inv .1) (w .5 .ensures))
-          passed (sym (w .6 .ensures) ∙ not-false _ (w .7 .left)))
-          (λ w. start-out (nOf i) (mOf i) (tableOf i) (bookOf i) (i .item-at .result) S passed (sym (has-is (c .before)) ∙ w .left)))
+          passed (sym (w .6 .ensures) ∙ not-false _ (w .7 .left))))
+          (λ w. subst⁻¹ now (w .1)
+          (start-out (nOf i) (mOf i) (tableOf i) (bookOf i) (i .item-at .result) passed (sym (has-is (c .before)) ∙ w .0 .left))))
           (c .if1 .came),
     )
 
 items-less : tie.Need-items-less Inv-loop2 μ-loop2 Inv-loop μ-loop Inv-items μ-items
-items-less c = omega (arith, c .before .before .item-at .ensures .past (c .before .before .before .items-test .taken))
+items-less c = omega (arith, c .before .before .before .item-at .ensures .past (c .before .before .before .before .items-test .taken))
+
+-- all starts of the item passed, and some of them was used, or none
+starts-passed : (c : tie.After-loop Inv-loop2 μ-loop2 Inv-loop μ-loop Inv-items μ-items) → (x : Item)
+    → Fields (bookOf (c .before .before)) (c .before .before .item-at .result) x
+    → (reverses (tabled (nOf (c .before .before)) (mOf (c .before .before)) (tableOf (c .before .before))) x ≡ true)
+    × (effective (tabled (nOf (c .before .before)) (mOf (c .before .before)) (tableOf (c .before .before))) x ≡ c .before .loop .used)
+starts-passed c x f =
+    let l = c .before .loop in
+    let i = c .before .before in
+    starts-done (nOf i) (mOf i) (tableOf i) (bookOf i) (i .item-at .result) (omega arith) (l .inv .2) x f
 
 items-again : tie.Need-items-again Inv-loop2 μ-loop2 Inv-loop μ-loop Inv-items μ-items
 items-again c =
-    let l = c .before .loop in
-    let i = c .before .before in
-    let t = c .before .before .before .items-test .taken in (
-      l .inv .0,
+    let i = c .before .before .before in
+    let t = c .before .before .before .before .items-test .taken in (
+      c .before .before .loop .inv .0,
       λ b a e.
-          at-next _ _ b a e _ (walk i b a e) t _ (i .item-at .ensures .next (there i b a e))
-          (starts-done (nOf i) (mOf i) (tableOf i) (bookOf i) (i .item-at .result) (l .start) (omega arith) (l .inv .2) _ (is i b a e)),
+          let (r, u) = starts-passed (c .before) _ (is i b a e) in
+          at-next _ _ b a e _ (walk i b a e) t _ (i .item-at .ensures .next (there i b a e)) (passes-both _ _ r (u ∙ not-false _ (c .if4 .left))),
     )
 
 returns : tie.Need-returns Inv-loop2 μ-loop2 Inv-loop μ-loop Inv-items μ-items
@@ -256,10 +272,18 @@ returns-2 c =
     let h = w .before .before .before .before .before .before in
     let l = h .before .before in
     let i = at-within w in
-    found _ _ b a e _ (walk i b a e) q (i .before .items-test .taken)
+    found _ _ b a e _ (walk i b a e) q (i .before .items-test .taken) NoReversePlan
+    (not-reversed _ _
     (start-fails (nOf i) (mOf i) (tableOf i) (bookOf i) (i .item-at .result) (l .before .loop .start) (w .within .result .mask) (ended w)
-    (l .loop-test .taken) (sym (has-is h) ∙ w .before .before .before .before .before .if1 .taken) (sym (t .before .is-empty .ensures) ∙ not-true _ (t .if2 .taken))
-    (sym (c .before .runs-back .ensures) ∙ not-true _ (c .if3 .taken)) _ (is i b a e))
+    (sym (has-is h) ∙ w .before .before .before .before .before .if1 .taken) (sym (t .before .is-empty .ensures) ∙ not-true _ (t .if2 .taken))
+    (l .loop-test .taken) (sym (c .before .runs-back .ensures) ∙ not-true _ (c .if3 .taken)) _ (is i b a e)))
+
+returns-3 : tie.Need-returns-3 Inv-loop2 μ-loop2 Inv-loop μ-loop Inv-items μ-items
+returns-3 c =
+    λ b a e q.
+    let i = c .before .before .before in
+    let (r, u) = starts-passed (c .before) _ (is i b a e) in
+    found _ _ b a e _ (walk i b a e) q (i .before .items-test .taken) NotEffective (not-used _ _ r (u ∙ not-true _ (c .if4 .taken)))
 
 pub first-wrong-spec : {M : Type 1} → statement M
 first-wrong-spec =
@@ -302,4 +326,5 @@ first-wrong-spec =
     items-less
     items-again
     returns
-    returns-2)
+    returns-2
+    returns-3)

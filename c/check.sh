@@ -3,7 +3,7 @@
 # The headers under every standard that gcc and clang have; the archive's names; the constant tables against the
 # generator, where rt check tables has built it; every call between guard pages and, where valgrind is present,
 # under it, CALLS times each (100,000); the stack that rollback.h states; the C and the Rust example on the same
-# inputs; README's example and docs/FORMAT.md's bytes. Its last line says it all.
+# inputs, as a plan and as a page; README's example and docs/FORMAT.md's bytes and page. Its last line says it all.
 set -eu
 cd "$(dirname "$0")/.."
 calls=${1:-100000}
@@ -56,7 +56,7 @@ bytes_of() { od -An -v -tx1 "$1" | tr -d ' \n'; }
 
 part='names'
 c/names.sh "$archive"
-say '7 names'
+say '8 names'
 
 part='constant tables'
 if [ -x target/bin/tables ]; then
@@ -121,23 +121,36 @@ if command -v cargo >/dev/null; then
     cargo build -q --release --manifest-path rust/Cargo.toml --example plan --example ridge
     rust=rust/target/release/examples
     tried=0
+    # Without and with --page: one status, the same words. A page has lines of 40 characters, and the commands
+    # down the page are the plan.
     try() { # status, arguments
         expected=$1
         shift
-        part="examples: $*"
-        status=0; "$work/plan" "$@" >"$work/c.out" 2>"$work/c.err" || status=$?
-        [ $status -eq "$expected" ] || { echo "C: status $status"; cat "$work/c.out" "$work/c.err"; exit 1; }
-        status=0; $rust/plan "$@" >"$work/rust.out" 2>"$work/rust.err" || status=$?
-        [ $status -eq "$expected" ] || { echo "Rust: status $status"; cat "$work/rust.out" "$work/rust.err"; exit 1; }
-        cmp "$work/c.out" "$work/rust.out"
-        # The words for a file that can't be read are the system's, and Rust adds its number.
-        [ "$expected" -eq 2 ] || cmp "$work/c.err" "$work/rust.err"
-        [ "$expected" -eq 0 ] || { [ -s "$work/c.err" ] && [ -s "$work/rust.err" ] && [ ! -s "$work/c.out" ]; }
+        for option in '' --page; do
+            part="examples: $option $*"
+            status=0; "$work/plan" ${option:+"$option"} "$@" >"$work/c.out" 2>"$work/c.err" || status=$?
+            [ $status -eq "$expected" ] || { echo "C: status $status"; cat "$work/c.out" "$work/c.err"; exit 1; }
+            status=0; $rust/plan ${option:+"$option"} "$@" >"$work/rust.out" 2>"$work/rust.err" || status=$?
+            [ $status -eq "$expected" ] || { echo "Rust: status $status"; cat "$work/rust.out" "$work/rust.err"; exit 1; }
+            cmp "$work/c.out" "$work/rust.out"
+            # The words for a file that can't be read are the system's, and Rust adds its number.
+            [ "$expected" -eq 2 ] || cmp "$work/c.err" "$work/rust.err"
+            [ "$expected" -eq 0 ] || { [ -s "$work/c.err" ] && [ -s "$work/rust.err" ] && [ ! -s "$work/c.out" ]; }
+            [ -n "$option" ] || { cp "$work/c.out" "$work/plan.out"; cp "$work/c.err" "$work/plan.err"; }
+        done
         tried=$((tried + 1))
+        cmp "$work/plan.err" "$work/c.err"
+        if [ "$expected" -eq 0 ]; then
+            [ -z "$(grep -v '^.\{40\}$' "$work/c.out")" ]
+            [ "$(sed -n '1s/^send \(nothing\)\{0,1\}//p' "$work/plan.out")" = "$(cut -c 17- "$work/c.out" | xargs)" ]
+        fi
     }
     in=$work/in
     try 0 "$in/book.bin" "$in/run.bin"
     try 0 "$in/book.bin" "$in/run-q8"
+    part='docs/FORMAT.md: the page'
+    sed -n '/^## A page/,/^## /p' docs/FORMAT.md | sed -n 's/|$//p' | grep -v '^|' >"$work/page.txt"
+    diff "$work/page.txt" "$work/c.out"
     try 0 "$in/book.bin" "$in/run-q11"
     for book in "$in"/[0-9]*-*; do
         try 1 "$book" "$in/run.bin"
@@ -148,12 +161,14 @@ if command -v cargo >/dev/null; then
     try 1 "$in/book.bin" "$in/2-cut"
     try 1 "$in/book.bin" "$in/run-10"
     try 1 "$in/book.bin" "$in/run-11"
+    try 2
     try 2 "$in/book.bin"
     try 2 "$in/book.bin" "$in/run.bin" "$in/run.bin"
+    try 2 "$in/book.bin" "$in/run.bin" --page
     try 2 "$in/missing" "$in/run.bin"
     try 2 "$in/book.bin" "$in/missing"
     try 2 "$in" "$in/run.bin"
-    say "C and Rust example alike on $tried inputs"
+    say "C and Rust example alike on $tried inputs, plan and page"
 
     part='crate without std'
     cargo build -q --release --manifest-path rust/Cargo.toml --no-default-features --lib
@@ -162,6 +177,10 @@ if command -v cargo >/dev/null; then
     $rust/ridge "$work/ridge" >"$work/ridge.txt"
     sed -n '/^The book: the ridge repeater/,/^```$/p' README.md | sed '$d' >"$work/readme.txt"
     diff "$work/readme.txt" "$work/ridge.txt"
+    try 0 "$work/ridge/book.bin" "$work/ridge/run.bin"
+    part='README: the page'
+    sed 's/ *$//' "$work/c.out" >"$work/page.txt"
+    sed -n '/^  1  3  2/,/^```$/p' README.md | sed '$d' | diff - "$work/page.txt"
     say "crate without std; README's example as printed"
 else
     say 'no cargo'

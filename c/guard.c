@@ -19,7 +19,10 @@
 #include <sys/wait.h>
 #include <unistd.h>
 
-enum { PAGE = 4096, BOOK_ROOM = 10 * PAGE, CALLS = 7, CODES = 13 };
+enum { PAGE = 4096, BOOK_ROOM = 10 * PAGE, CALLS = 8, CODES = 13 };
+
+/* What assembling is lent for the legs, and whether a page. */
+enum { AS_BYTES, AS_STRUCTS, ON_PAPER, FORMS };
 
 static int heap;
 static uint64_t state;
@@ -58,7 +61,7 @@ typedef struct {
     uint8_t fill;
 } area;
 
-static area book, run, table, slots, plan, legs, structs, write_table, write_slots, out;
+static area book, run, table, slots, plan, legs, structs, paper, write_table, write_slots, out;
 
 static void map(area *a, size_t room) {
     uint8_t *all;
@@ -156,7 +159,7 @@ static void wrote(const area *a, size_t used, copy *c, int second) {
 
 /* The lengths of the lent buffers, in elements. */
 typedef struct {
-    size_t table, slots, plan, legs, structs, write_table, write_slots, out;
+    size_t table, slots, plan, legs, structs, paper, write_table, write_slots, out;
 } lengths;
 
 static size_t length(size_t stated, int is_short) {
@@ -166,13 +169,14 @@ static size_t length(size_t stated, int is_short) {
 }
 
 static lengths some_lengths(void) {
-    size_t is_short = below(8) == 0 ? 1 + below(4) : 0, writing = below(8) == 0 ? 1 + below(3) : 0;
+    size_t is_short = below(7) == 0 ? 1 + below(5) : 0, writing = below(8) == 0 ? 1 + below(3) : 0;
     lengths l;
     l.table = length(ROLLBACK_TABLE_LEN, is_short == 1);
     l.slots = length(ROLLBACK_SLOTS_LEN, is_short == 2);
     l.plan = length(ROLLBACK_PLAN_LEN, is_short == 3);
     l.legs = length(ROLLBACK_LEGS_LEN, is_short == 4);
     l.structs = length(ROLLBACK_LEG_STRUCTS_LEN, is_short == 4);
+    l.paper = length(ROLLBACK_PAGE_LEN, is_short == 5);
     l.write_table = length(ROLLBACK_TABLE_LEN, writing == 1);
     l.write_slots = length(ROLLBACK_SLOTS_LEN, writing == 2);
     l.out = length(ROLLBACK_BOOK_LEN, writing == 3);
@@ -222,48 +226,62 @@ static rollback_reading reading(size_t call, lengths l, int at_end, const rollba
     return r;
 }
 
-/* Assembling, with the legs as bytes or as structs. */
-static rollback_assembly assembling(int as_structs, lengths l, int at_end, const rollback_assembly *first) {
-    static copy tables, all_slots, commands, all_legs;
-    area *lent_legs = as_structs ? &structs : &legs;
-    rollback_assembly r;
-    int second = first != NULL, refused = second && first->code != 0;
+/* Assembling in one of its forms. Without a page the length is 0. */
+static rollback_paged assembling(int form, lengths l, int at_end, const rollback_paged *first) {
+    static const char *const names[FORMS] = {"rollback_assemble", "rollback_assemble_legs", "rollback_page"};
+    static copy tables, all_slots, commands, all_legs, lines;
+    area *lent_legs = form == AS_STRUCTS ? &structs : &legs;
+    rollback_paged p;
+    const rollback_assembly *r = &p.assembly, *before = first == NULL ? NULL : &first->assembly;
+    int second = first != NULL, refused = second && before->code != 0;
     lend(&table, l.table * sizeof(uint64_t), at_end, (uint8_t)word());
     lend(&slots, l.slots, at_end, (uint8_t)word());
     lend(&plan, l.plan, at_end, (uint8_t)word());
-    lend(lent_legs, as_structs ? l.structs * sizeof(rollback_leg) : l.legs, at_end, (uint8_t)word());
+    lend(lent_legs, form == AS_STRUCTS ? l.structs * sizeof(rollback_leg) : l.legs, at_end, (uint8_t)word());
+    lend(&paper, l.paper, at_end, (uint8_t)word());
     if (refused) {
         allow(&plan, PROT_READ);
         allow(lent_legs, PROT_READ);
-        if (first->code <= 7) {
+        allow(&paper, PROT_READ);
+        if (before->code <= 7) {
             allow(&table, PROT_READ);
             allow(&slots, PROT_READ);
         }
     }
-    now = as_structs ? "rollback_assemble_legs" : "rollback_assemble";
-    if (as_structs)
-        r = rollback_assemble_legs(pointer(&book), book.bytes, pointer(&run), run.bytes, pointer(&table), l.table,
-                                   pointer(&slots), l.slots, pointer(&plan), l.plan, pointer(&structs), l.structs);
+    now = names[form];
+    p.length = 0;
+    if (form == AS_STRUCTS)
+        p.assembly = rollback_assemble_legs(pointer(&book), book.bytes, pointer(&run), run.bytes, pointer(&table),
+                                            l.table, pointer(&slots), l.slots, pointer(&plan), l.plan,
+                                            pointer(&structs), l.structs);
+    else if (form == AS_BYTES)
+        p.assembly = rollback_assemble(pointer(&book), book.bytes, pointer(&run), run.bytes, pointer(&table), l.table,
+                                       pointer(&slots), l.slots, pointer(&plan), l.plan, pointer(&legs), l.legs);
     else
-        r = rollback_assemble(pointer(&book), book.bytes, pointer(&run), run.bytes, pointer(&table), l.table,
-                              pointer(&slots), l.slots, pointer(&plan), l.plan, pointer(&legs), l.legs);
-    count(as_structs ? 3 : 2, r.code, refused);
-    look(r.fewest, sizeof r.fewest);
-    if (second && (r.code != first->code || r.place != first->place || r.commands != first->commands ||
-                   r.legs != first->legs || memcmp(r.fewest, first->fewest, sizeof r.fewest) != 0))
+        p = rollback_page(pointer(&book), book.bytes, pointer(&run), run.bytes, pointer(&table), l.table,
+                          pointer(&slots), l.slots, pointer(&plan), l.plan, pointer(&legs), l.legs,
+                          pointer(&paper), l.paper);
+    count(2 + (size_t)form, r->code, refused);
+    look(r->fewest, sizeof r->fewest);
+    if (second && (r->code != before->code || r->place != before->place || r->commands != before->commands ||
+                   r->legs != before->legs || memcmp(r->fewest, before->fewest, sizeof r->fewest) != 0 ||
+                   p.length != first->length))
         fail("gave another answer the second time");
-    if (r.code != 0 && (r.commands != 0 || r.legs != 0))
+    if (r->code != 0 && (r->commands != 0 || r->legs != 0))
         fail("refused with counts that are not 0");
-    if (r.code == 0 || r.code >= 8) {
+    if (p.length != (form == ON_PAPER ? r->legs * ROLLBACK_PAGE_LINE_LEN : 0))
+        fail("gave a length that is not that of its legs' lines");
+    if (r->code == 0 || r->code >= 8) {
         wrote(&table, device.n * device.m * sizeof(uint64_t), &tables, second);
         wrote(&slots, device.items * ROLLBACK_SLOT_LEN, &all_slots, second);
     } else {
         kept(&table, 0);
         kept(&slots, 0);
     }
-    wrote(&plan, r.commands, &commands, second);
-    wrote(lent_legs, r.legs * 3, &all_legs, second);
-    return r;
+    wrote(&plan, r->commands, &commands, second);
+    wrote(lent_legs, r->legs * 3, &all_legs, second);
+    wrote(&paper, p.length, &lines, second);
+    return p;
 }
 
 static rollback_writing writing(uint64_t n, uint64_t m, uint64_t items, lengths l, int at_end,
@@ -277,7 +295,7 @@ static rollback_writing writing(uint64_t n, uint64_t m, uint64_t items, lengths 
     now = "rollback_write";
     r = rollback_write(n, m, items, pointer(&write_table), l.write_table, pointer(&write_slots), l.write_slots,
                        pointer(&out), l.out);
-    count(4, r.code, refused);
+    count(5, r.code, refused);
     if (second && (r.code != first->code || r.place != first->place || r.length != first->length))
         fail("gave another answer the second time");
     if (r.code != 0 && r.length != 0)
@@ -340,10 +358,10 @@ static void all_calls(const uint8_t *book_bytes, size_t book_length, const uint8
     static uint64_t numbers[3];
     lengths l = some_lengths();
     rollback_reading r;
-    rollback_assembly a;
+    rollback_paged a;
     rollback_writing w;
     uint64_t n, m, all;
-    int at_end = (int)below(2), as_structs;
+    int at_end = (int)below(2), form;
     give(&book, book_bytes, book_length, book_length, at_end);
     give(&run, run_bytes, run_length, run_length, at_end);
     r = reading(0, l, at_end, NULL);
@@ -357,9 +375,9 @@ static void all_calls(const uint8_t *book_bytes, size_t book_length, const uint8
     reading(0, l, !at_end, &r);
     r = reading(1, l, at_end, NULL);
     reading(1, l, !at_end, &r);
-    for (as_structs = 0; as_structs < 2; as_structs++) {
-        a = assembling(as_structs, l, at_end, NULL);
-        assembling(as_structs, l, !at_end, &a);
+    for (form = AS_BYTES; form < FORMS; form++) {
+        a = assembling(form, l, at_end, NULL);
+        assembling(form, l, !at_end, &a);
     }
 
     /* Writing it back, with a change now and then. What is ignored is not given. */
@@ -376,8 +394,8 @@ static void all_calls(const uint8_t *book_bytes, size_t book_length, const uint8
     w = writing(n, m, all, l, at_end, NULL);
     writing(n, m, all, l, !at_end, &w);
 
-    looking_up(5, "rollback_ridge", rollback_ridge, 64, 16, 1);
-    looking_up(6, "rollback_portable", rollback_portable, 32, 12, 0);
+    looking_up(6, "rollback_ridge", rollback_ridge, 64, 16, 1);
+    looking_up(7, "rollback_portable", rollback_portable, 32, 12, 0);
 }
 
 /* That the pages do what they are for: each of these must end by a fault. */
@@ -403,8 +421,9 @@ static void try_pages(void) {
 }
 
 int main(int argc, char **argv) {
-    static const char *const names[CALLS] = {"read", "check", "assemble", "assemble_legs", "write", "ridge", "portable"};
-    static const unsigned has[CALLS] = {0x00FF, 0x11FF, 0x1FFF, 0x1FFF, 0x00A3, 0x0021, 0x0021};
+    static const char *const names[CALLS] = {"read", "check", "assemble", "assemble_legs",
+                                             "page", "write", "ridge", "portable"};
+    static const unsigned has[CALLS] = {0x00FF, 0x11FF, 0x1FFF, 0x1FFF, 0x1FFF, 0x00A3, 0x0021, 0x0021};
     static uint8_t book_bytes[BOOK_ROOM], run_bytes[BOOK_ROOM];
     file cases;
     pair *pairs;
@@ -432,6 +451,7 @@ int main(int argc, char **argv) {
     map(&plan, PAGE);
     map(&legs, PAGE);
     map(&structs, PAGE);
+    map(&paper, PAGE);
     map(&write_table, 5 * PAGE);
     map(&write_slots, PAGE);
     map(&out, BOOK_ROOM);

@@ -11,12 +11,17 @@ typedef char legs_of_3_bytes[ROLLBACK_LEGS_LEN == 3 * ROLLBACK_LEG_STRUCTS_LEN ?
 typedef char leg_of_3_bytes[sizeof(rollback_leg) == 3 ? 1 : -1];
 typedef char table_of_largest_device[ROLLBACK_TABLE_LEN == 64 * 32 ? 1 : -1];
 typedef char plan_of_32_items[ROLLBACK_PLAN_LEN == 32 * 8 ? 1 : -1];
+typedef char page_of_32_lines[ROLLBACK_PAGE_LEN == 32 * ROLLBACK_PAGE_LINE_LEN ? 1 : -1];
 typedef char largest_book[ROLLBACK_BOOK_LEN == 6 + 2048 * 14 + 64 * 38 ? 1 : -1];
 typedef char largest_run[ROLLBACK_RUN_LEN == 4 + 9 + 9 * (ROLLBACK_POINTS_LEN - 1) ? 1 : -1];
 typedef char plain_results[sizeof(rollback_reading) == 40 && sizeof(rollback_writing) == 24 &&
                                    sizeof(rollback_lookup) == 24 && sizeof(rollback_assembly) == 104
                                ? 1
                                : -1];
+typedef char paged_result[sizeof(rollback_paged) == 112 && offsetof(rollback_paged, assembly) == 0 &&
+                                  offsetof(rollback_paged, length) == 104
+                              ? 1
+                              : -1];
 
 static int wrong = 0;
 
@@ -39,7 +44,7 @@ static void expect_record(const uint8_t *book, size_t length, uint64_t place, co
 int main(void) {
     static uint64_t table[ROLLBACK_TABLE_LEN];
     static uint8_t slots[ROLLBACK_SLOTS_LEN], plan[ROLLBACK_PLAN_LEN], legs[ROLLBACK_LEGS_LEN];
-    static uint8_t book[ROLLBACK_BOOK_LEN];
+    static uint8_t book[ROLLBACK_BOOK_LEN], page[ROLLBACK_PAGE_LEN];
     static rollback_leg structs[ROLLBACK_LEG_STRUCTS_LEN];
     /* One state, one command that stays there, no items; then bytes of no known kind. */
     static const uint8_t small[] = {2, 0, 1, 0, 1, 1, 10, 0, 2, 0, 0, 0, 1, 0, 0, 0, 0, 0, 0, 0, 0, 0, 9, 9};
@@ -47,6 +52,7 @@ int main(void) {
     char version[32];
     rollback_reading read, checked;
     rollback_assembly bytes, in_structs;
+    rollback_paged paged;
     rollback_writing written;
 
     sprintf(version, "%d.%d.%d", ROLLBACK_VERSION_MAJOR, ROLLBACK_VERSION_MINOR, ROLLBACK_VERSION_PATCH);
@@ -59,10 +65,13 @@ int main(void) {
     in_structs = rollback_assemble_legs(small, 20, run, sizeof run, table, ROLLBACK_TABLE_LEN, slots,
                                         ROLLBACK_SLOTS_LEN, plan, ROLLBACK_PLAN_LEN, structs,
                                         ROLLBACK_LEG_STRUCTS_LEN);
+    paged = rollback_page(small, 20, run, sizeof run, table, ROLLBACK_TABLE_LEN, slots, ROLLBACK_SLOTS_LEN,
+                          plan, ROLLBACK_PLAN_LEN, legs, ROLLBACK_LEGS_LEN, page, ROLLBACK_PAGE_LEN);
     written = rollback_write(1, 1, 0, table, ROLLBACK_TABLE_LEN, slots, ROLLBACK_SLOTS_LEN, book, ROLLBACK_BOOK_LEN);
     if (read.code != ROLLBACK_E_DONE || read.n != 1 || read.m != 1 || read.items != 0 || checked.code != read.code ||
         bytes.code != ROLLBACK_E_DONE || bytes.fewest[0] != 0 || bytes.fewest[1] != ROLLBACK_NONE ||
-        in_structs.code != bytes.code || written.code != ROLLBACK_E_DONE || written.length != 20 ||
+        in_structs.code != bytes.code || paged.assembly.code != bytes.code || paged.assembly.fewest[0] != 0 ||
+        paged.length != 0 || page[0] != 0 || written.code != ROLLBACK_E_DONE || written.length != 20 ||
         memcmp(book, small, 20) != 0 || rollback_ridge(0, 13).mask != 15 || rollback_portable(16, 5).mask != 2162688) {
         printf("a call gives a wrong answer\n");
         wrong = 1;

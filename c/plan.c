@@ -1,5 +1,5 @@
 /*
- * Prints the plan that undoes a run: plan BOOK RUN
+ * Prints the plan that undoes a run, or with --page its page and nothing else: plan [--page] BOOK RUN
  * Status 0 if there is one, 1 if the library refuses, 2 on bad usage or a file that can't be read or
  * written. rust/examples/plan.rs does the same in Rust.
  */
@@ -18,16 +18,16 @@ static void print_row(const uint8_t *commands, uint64_t count) {
     printf(count == 0 ? " nothing\n" : "\n");
 }
 
-/* What is wrong, and in which file and record. */
+/* What is wrong, and in which file and record; the names are those of book and run. */
 static void print_refusal(char **names, file book, const rollback_assembly *r) {
     size_t point;
     if ((r->code >= ROLLBACK_E_CUT_OFF && r->code <= ROLLBACK_E_NOT_REVERSE_PLAN) ||
         r->code == ROLLBACK_E_NOT_EFFECTIVE) {
         rollback_record record = rollback_record_at(book.bytes, book.length, r->place);
-        fprintf(stderr, "%s: %s %" PRIu64 " (%s%" PRIu64 "): ", names[1], record.name, record.number,
+        fprintf(stderr, "%s: %s %" PRIu64 " (%s%" PRIu64 "): ", names[0], record.name, record.number,
                 strcmp(record.name, "record") == 0 ? "at " : "record at ", r->place);
     } else {
-        fprintf(stderr, "%s: ", names[2]);
+        fprintf(stderr, "%s: ", names[1]);
     }
     fprintf(stderr, "%s (code %" PRIu64 ")", rollback_message(r->code), r->code);
     if (r->code == ROLLBACK_E_NO_CHAIN) {
@@ -39,34 +39,50 @@ static void print_refusal(char **names, file book, const rollback_assembly *r) {
     fprintf(stderr, "\n");
 }
 
+/* What to send, then a line for each leg. */
+static void print_plan(const rollback_assembly *r, const uint8_t *slots, const uint8_t *plan,
+                       const rollback_leg *legs) {
+    uint64_t i, sent = 0;
+    printf("send");
+    print_row(plan, r->commands);
+    for (i = 0; i < r->legs; i++) {
+        uint8_t count = slots[ROLLBACK_SLOT_LEN * legs[i].item + 1];
+        printf("item %u from point %u to %u:", legs[i].item, legs[i].upper, legs[i].lower);
+        print_row(plan + sent, count);
+        sent += count;
+    }
+}
+
 int main(int argc, char **argv) {
     static uint64_t table[ROLLBACK_TABLE_LEN];
     static uint8_t slots[ROLLBACK_SLOTS_LEN], plan[ROLLBACK_PLAN_LEN];
-    static rollback_leg legs[ROLLBACK_LEG_STRUCTS_LEN];
+    int on_paper = argc > 1 && strcmp(argv[1], "--page") == 0;
+    char **names = argv + 1 + on_paper;
     file book, run;
     rollback_assembly r;
-    uint64_t i, sent = 0;
-    if (argc != 3) {
-        fprintf(stderr, "usage: plan BOOK RUN\n");
+    if (argc != 3 + on_paper) {
+        fprintf(stderr, "usage: plan [--page] BOOK RUN\n");
         return 2;
     }
-    book = load(argv[1]);
-    run = load(argv[2]);
-    r = rollback_assemble_legs(book.bytes, book.length, run.bytes, run.length, table, ROLLBACK_TABLE_LEN,
-                               slots, ROLLBACK_SLOTS_LEN, plan, ROLLBACK_PLAN_LEN,
-                               legs, ROLLBACK_LEG_STRUCTS_LEN);
-    if (r.code == ROLLBACK_E_DONE) {
-        printf("send");
-        print_row(plan, r.commands);
-        for (i = 0; i < r.legs; i++) {
-            uint8_t count = slots[ROLLBACK_SLOT_LEN * legs[i].item + 1];
-            printf("item %u from point %u to %u:", legs[i].item, legs[i].upper, legs[i].lower);
-            print_row(plan + sent, count);
-            sent += count;
-        }
+    book = load(names[0]);
+    run = load(names[1]);
+    if (on_paper) {
+        static uint8_t legs[ROLLBACK_LEGS_LEN], page[ROLLBACK_PAGE_LEN];
+        rollback_paged p = rollback_page(book.bytes, book.length, run.bytes, run.length, table, ROLLBACK_TABLE_LEN,
+                                         slots, ROLLBACK_SLOTS_LEN, plan, ROLLBACK_PLAN_LEN,
+                                         legs, ROLLBACK_LEGS_LEN, page, ROLLBACK_PAGE_LEN);
+        r = p.assembly;
+        fwrite(page, 1, p.length, stdout);
     } else {
-        print_refusal(argv, book, &r);
+        static rollback_leg legs[ROLLBACK_LEG_STRUCTS_LEN];
+        r = rollback_assemble_legs(book.bytes, book.length, run.bytes, run.length, table, ROLLBACK_TABLE_LEN,
+                                   slots, ROLLBACK_SLOTS_LEN, plan, ROLLBACK_PLAN_LEN,
+                                   legs, ROLLBACK_LEG_STRUCTS_LEN);
+        if (r.code == ROLLBACK_E_DONE)
+            print_plan(&r, slots, plan, legs);
     }
+    if (r.code != ROLLBACK_E_DONE)
+        print_refusal(names, book, &r);
     free(book.bytes);
     free(run.bytes);
     if (fflush(stdout) != 0 || ferror(stdout)) {

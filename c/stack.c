@@ -15,7 +15,8 @@
 enum { STACK = 1 << 20, GAP = 1 << 16, PAINT = 0xA5 };
 
 static uint64_t table[ROLLBACK_TABLE_LEN];
-static uint8_t slots[ROLLBACK_SLOTS_LEN], plan[ROLLBACK_PLAN_LEN], legs[ROLLBACK_LEGS_LEN], out[ROLLBACK_BOOK_LEN];
+static uint8_t slots[ROLLBACK_SLOTS_LEN], plan[ROLLBACK_PLAN_LEN], legs[ROLLBACK_LEGS_LEN], page[ROLLBACK_PAGE_LEN];
+static uint8_t out[ROLLBACK_BOOK_LEN];
 static rollback_leg structs[ROLLBACK_LEG_STRUCTS_LEN];
 static file book, run;
 static rollback_reading device;
@@ -46,6 +47,13 @@ static void assemble_legs(void) {
         rollback_assemble_legs(book.bytes, book.length, run.bytes, run.length, table, ROLLBACK_TABLE_LEN,
                                slots, ROLLBACK_SLOTS_LEN, plan, ROLLBACK_PLAN_LEN, structs, ROLLBACK_LEG_STRUCTS_LEN);
     code = r.code;
+}
+
+static void lay_out(void) {
+    rollback_paged r = rollback_page(book.bytes, book.length, run.bytes, run.length, table, ROLLBACK_TABLE_LEN,
+                                     slots, ROLLBACK_SLOTS_LEN, plan, ROLLBACK_PLAN_LEN, legs, ROLLBACK_LEGS_LEN,
+                                     page, ROLLBACK_PAGE_LEN);
+    code = r.assembly.code;
 }
 
 static void write_book(void) {
@@ -103,6 +111,7 @@ static const struct {
     {"rollback_check", check, ROLLBACK_CHECK_STACK},
     {"rollback_assemble", assemble, ROLLBACK_ASSEMBLE_STACK},
     {"rollback_assemble_legs", assemble_legs, ROLLBACK_ASSEMBLE_LEGS_STACK},
+    {"rollback_page", lay_out, ROLLBACK_PAGE_STACK},
     {"rollback_write", write_book, ROLLBACK_WRITE_STACK},
     {"rollback_ridge", ridge, ROLLBACK_RIDGE_STACK},
     {"rollback_portable", portable, ROLLBACK_PORTABLE_STACK},

@@ -30,9 +30,9 @@ extern "C" {
 #endif
 
 /* Of this header; the Rust crate has the same. */
-#define ROLLBACK_VERSION "0.4.0"
+#define ROLLBACK_VERSION "0.5.0"
 #define ROLLBACK_VERSION_MAJOR 0
-#define ROLLBACK_VERSION_MINOR 4
+#define ROLLBACK_VERSION_MINOR 5
 #define ROLLBACK_VERSION_PATCH 0
 
 /* The least lengths of lent buffers, in elements. A shorter one is refused with code 1. */
@@ -41,6 +41,7 @@ extern "C" {
 #define ROLLBACK_PLAN_LEN 256       /* bytes: a command each */
 #define ROLLBACK_LEGS_LEN 96        /* bytes: 32 legs of 3, item, upper point, lower point */
 #define ROLLBACK_LEG_STRUCTS_LEN 32 /* rollback_leg */
+#define ROLLBACK_PAGE_LEN 1312      /* bytes: 32 lines of 41, see below */
 #define ROLLBACK_BOOK_LEN 31110     /* bytes of the largest book; what writing's output must hold */
 
 /* Other lengths. */
@@ -51,6 +52,12 @@ extern "C" {
  * Of the commands the first k and r count; the others are 0.
  */
 #define ROLLBACK_SLOT_LEN 34
+/*
+ * A line of a page: 40 characters of ASCII and a newline. Right-aligned, padded with spaces: the leg's
+ * number from 1 (3 wide), upper point (3), lower point (3), item (4), number of reverse commands (3), then
+ * up to 8 commands (3 each), blank where there are fewer.
+ */
+#define ROLLBACK_PAGE_LINE_LEN 41
 
 /*
  * Bytes of stack for a call on x86-64: the most that was measured, over the largest books (docs/SPEED.md),
@@ -60,6 +67,7 @@ extern "C" {
 #define ROLLBACK_CHECK_STACK 2048
 #define ROLLBACK_ASSEMBLE_STACK 4096
 #define ROLLBACK_ASSEMBLE_LEGS_STACK 4096
+#define ROLLBACK_PAGE_STACK 4096
 #define ROLLBACK_WRITE_STACK 512
 #define ROLLBACK_RIDGE_STACK 512
 #define ROLLBACK_PORTABLE_STACK 512
@@ -103,6 +111,12 @@ typedef struct {
     uint64_t code, place, commands, legs;
     uint16_t fewest[ROLLBACK_POINTS_LEN];
 } rollback_assembly;
+
+/* From the page: what assembling gives, and the length of the page's text in bytes, 0 on a refusal. */
+typedef struct {
+    rollback_assembly assembly;
+    uint64_t length;
+} rollback_paged;
 
 /* From writing: the book's length in bytes, 0 on a refusal. */
 typedef struct {
@@ -173,6 +187,24 @@ rollback_assembly rollback_assemble_legs(
     uint8_t *slots, size_t slots_len,
     uint8_t *plan, size_t plan_len,
     rollback_leg *legs, size_t legs_len);
+
+/*
+ * Assembles the plan and lays it out on a page, a line for each leg. The commands, taken down the page, are
+ * the plan.
+ *
+ * Takes book and run; lends table, slots, plan, legs as bytes, and page. Codes: 0 to 12.
+ * 0        table, slots, plan and legs as after assembling; page: its first `length` bytes are one line of
+ *          ROLLBACK_PAGE_LINE_LEN bytes for each leg, in their order, not NUL-terminated; the others stay.
+ * 1 to 12  as assembling; page untouched. A short page is 1 too, before everything else.
+ */
+rollback_paged rollback_page(
+    const uint8_t *book, size_t book_len,
+    const uint8_t *run, size_t run_len,
+    uint64_t *table, size_t table_len,
+    uint8_t *slots, size_t slots_len,
+    uint8_t *plan, size_t plan_len,
+    uint8_t *legs, size_t legs_len,
+    uint8_t *page, size_t page_len);
 
 /*
  * Writes the book of a table and slots. It judges the format, not whether items are accepted.

@@ -15,7 +15,7 @@
 #define ROLLBACK_INLINE static
 #endif
 
-/* What a code of reading, checking, assembling or of a lookup means. */
+/* What a code of reading, checking, assembling, of the page or of a lookup means. */
 ROLLBACK_INLINE const char *rollback_message(uint64_t code) {
     static const char *const messages[] = {
         "done",

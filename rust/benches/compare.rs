@@ -26,6 +26,7 @@ struct Lent {
     slots: Vec<u8>,
     plan: Vec<u8>,
     legs: Vec<u8>,
+    page: Vec<u8>,
     structs: Vec<calls::Leg>,
     plain_structs: Vec<rollback_plain::Leg>,
     out: Vec<u8>,
@@ -46,6 +47,7 @@ impl Lent {
             slots,
             plan: vec![0; calls::PLAN_LEN],
             legs: vec![0; calls::LEGS_LEN],
+            page: vec![0; calls::PAGE_LEN],
             structs: vec![calls::Leg::default(); calls::LEG_STRUCTS_LEN],
             plain_structs: vec![rollback_plain::Leg::default(); calls::LEG_STRUCTS_LEN],
             out: vec![0; calls::BOOK_LEN],
@@ -68,7 +70,7 @@ const CHECK: Pair = Pair {
 };
 
 #[rustfmt::skip]
-const PAIRS: [Pair; 5] = [
+const PAIRS: [Pair; 6] = [
     Pair {
         name: "read",
         verified: |l| calls::read(&l.book, &mut l.table, &mut l.slots).code,
@@ -92,6 +94,15 @@ const PAIRS: [Pair; 5] = [
         plain: |l| rollback_plain::assemble_legs(
             &l.book, &l.run, &mut l.table, &mut l.slots, &mut l.plan, &mut l.plain_structs,
         ).code,
+    },
+    Pair {
+        name: "page",
+        verified: |l| calls::page(
+            &l.book, &l.run, &mut l.table, &mut l.slots, &mut l.plan, &mut l.legs, &mut l.page,
+        ).assembly.code,
+        plain: |l| rollback_plain::page(
+            &l.book, &l.run, &mut l.table, &mut l.slots, &mut l.plan, &mut l.legs, &mut l.page,
+        ).assembly.code,
     },
     Pair {
         name: "write",

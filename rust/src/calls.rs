@@ -18,6 +18,10 @@ pub const PLAN_LEN: usize = 256;
 pub const LEGS_LEN: usize = 96;
 /// Lent legs as structs.
 pub const LEG_STRUCTS_LEN: usize = 32;
+/// Bytes of a lent page.
+pub const PAGE_LEN: usize = 1_312;
+/// Bytes of a line of a page, its newline included.
+pub const PAGE_LINE_LEN: usize = 41;
 /// Bytes of the largest book, and of writing's output.
 pub const BOOK_LEN: usize = 31_110;
 /// Bytes of the largest run.
@@ -55,6 +59,26 @@ pub struct Assembly {
     pub legs: u64,
     /// The fewest commands from each point down to 0, or [`NONE`](crate::NONE).
     pub fewest: [u16; POINTS_LEN],
+}
+
+/// What the page answers.
+#[repr(C)]
+#[derive(Clone, Copy, Debug, PartialEq, Eq)]
+pub struct Paged {
+    /// What assembling answers.
+    pub assembly: Assembly,
+    /// Bytes of the page's text: 41 for each leg, 0 on a refusal.
+    pub length: u64,
+}
+
+impl Paged {
+    /// The text in the page that the call was lent: a line for each leg, none on a refusal. `None`
+    /// for a page that is not the one: too short, or not text.
+    #[must_use]
+    pub fn text<'a>(&self, page: &'a [u8]) -> Option<&'a str> {
+        let length = usize::try_from(self.length).ok()?;
+        core::str::from_utf8(page.get(..length)?).ok()
+    }
 }
 
 /// What writing answers.
@@ -96,7 +120,7 @@ pub struct Leg {
 /// The archive's names, as in `include/rollback.h`.
 #[rustfmt::skip]
 mod sys {
-    use super::{Assembly, Leg, Lookup, Reading, Writing};
+    use super::{Assembly, Leg, Lookup, Paged, Reading, Writing};
 
     extern "C" {
         pub fn rollback_read(
@@ -125,6 +149,15 @@ mod sys {
             plan: *mut u8, plan_len: usize,
             legs: *mut Leg, legs_len: usize,
         ) -> Assembly;
+        pub fn rollback_page(
+            book: *const u8, book_len: usize,
+            run: *const u8, run_len: usize,
+            table: *mut u64, table_len: usize,
+            slots: *mut u8, slots_len: usize,
+            plan: *mut u8, plan_len: usize,
+            legs: *mut u8, legs_len: usize,
+            page: *mut u8, page_len: usize,
+        ) -> Paged;
         pub fn rollback_write(
             n: u64, m: u64, items: u64,
             table: *const u64, table_len: usize,
@@ -208,6 +241,31 @@ pub fn assemble_legs(
             slots.as_mut_ptr(), slots.len(),
             plan.as_mut_ptr(), plan.len(),
             legs.as_mut_ptr(), legs.len(),
+        )
+    }
+}
+
+/// [`assemble`], and the plan on paper: a line for each leg, which [`Paged::text`] gives. Codes 0 to 12.
+#[must_use]
+#[rustfmt::skip]
+pub fn page(
+    book: &[u8],
+    run: &[u8],
+    table: &mut [u64],
+    slots: &mut [u8],
+    plan: &mut [u8],
+    legs: &mut [u8],
+    page: &mut [u8],
+) -> Paged {
+    unsafe {
+        sys::rollback_page(
+            book.as_ptr(), book.len(),
+            run.as_ptr(), run.len(),
+            table.as_mut_ptr(), table.len(),
+            slots.as_mut_ptr(), slots.len(),
+            plan.as_mut_ptr(), plan.len(),
+            legs.as_mut_ptr(), legs.len(),
+            page.as_mut_ptr(), page.len(),
         )
     }
 }

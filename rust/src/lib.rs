@@ -24,6 +24,7 @@
 //! let plan = rollback::plan(&book, &run)?;
 //! assert_eq!(plan.commands(), [0]);
 //! assert_eq!(plan.to_string(), "send 0\nitem 0 from point 1 to 0: 0\n");
+//! assert_eq!(plan.page(), "  1  1  0   0  1  0                     \n");
 //!
 //! // Had it not been seen off, it may have been on before, and nothing in the book undoes that.
 //! let run = rollback::run(&[1], &[0b11, 0b11]);

@@ -1,4 +1,5 @@
 use core::fmt;
+use std::string::String;
 use std::vec;
 use std::vec::Vec;
 
@@ -18,6 +19,7 @@ pub struct Plan {
     legs: Vec<Leg>,
     /// The number of commands of each leg.
     counts: Vec<usize>,
+    page: String,
     fewest: [u16; calls::POINTS_LEN],
 }
 
@@ -45,6 +47,19 @@ impl Plan {
                 rest = after;
                 (leg, commands)
             })
+    }
+
+    /// The plan on paper, laid out by the library: a line of 40 characters and a newline for each
+    /// leg. Right-aligned in each are the leg's number from 1 (3 wide), its upper point (3), lower
+    /// point (3), item (4), number of commands (3) and up to 8 commands (3 each); the rest is blank.
+    ///
+    /// ```text
+    ///   1  2  1   2  3  8  1  9
+    ///   2  1  0   0  1 15
+    /// ```
+    #[must_use]
+    pub fn page(&self) -> &str {
+        &self.page
     }
 
     /// The fewest commands from each point down to 0; [`NONE`](crate::NONE) where no chain exists
@@ -89,13 +104,31 @@ pub fn plan(book: &[u8], run: &[u8]) -> Result<Plan, Fault> {
     let mut table = vec![0; calls::TABLE_LEN];
     let mut slots = vec![0; calls::SLOTS_LEN];
     let mut commands = vec![0; calls::PLAN_LEN];
-    let mut legs = vec![Leg::default(); calls::LEG_STRUCTS_LEN];
-    let r = calls::assemble_legs(book, run, &mut table, &mut slots, &mut commands, &mut legs);
+    let mut legs = vec![0; calls::LEGS_LEN];
+    let mut page = vec![0; calls::PAGE_LEN];
+    let paged = calls::page(
+        book,
+        run,
+        &mut table,
+        &mut slots,
+        &mut commands,
+        &mut legs,
+        &mut page,
+    );
+    let r = paged.assembly;
     if r.code != 0 {
         return Err(Fault::new(r.code, r.place, r.fewest, book));
     }
     commands.truncate(size(r.commands));
-    legs.truncate(size(r.legs));
+    let legs: Vec<Leg> = legs
+        .chunks_exact(3)
+        .take(size(r.legs))
+        .map(|leg| Leg {
+            item: leg[0],
+            upper: leg[1],
+            lower: leg[2],
+        })
+        .collect();
     let count = |leg: &Leg| slots.get(usize::from(leg.item) * calls::SLOT_LEN + 1);
     let counts = legs
         .iter()
@@ -105,6 +138,7 @@ pub fn plan(book: &[u8], run: &[u8]) -> Result<Plan, Fault> {
         commands,
         legs,
         counts,
+        page: paged.text(&page).unwrap_or_default().into(),
         fewest: r.fewest,
     })
 }

@@ -17,6 +17,7 @@ struct After {
     slots: Vec<u8>,
     plan: Vec<u8>,
     legs: Vec<u8>,
+    page: Vec<u8>,
     out: Vec<u8>,
 }
 
@@ -29,6 +30,7 @@ impl After {
             slots: input.slots.clone(),
             plan: input.plan.clone(),
             legs: input.legs.clone(),
+            page: input.page.clone(),
             ..After::default()
         }
     }
@@ -49,6 +51,7 @@ impl After {
             part("slots", &self.slots, &other.slots),
             part("plan", &self.plan, &other.plan),
             part("legs", &self.legs, &other.legs),
+            part("page", &self.page, &other.page),
             part("out", &self.out, &other.out),
         ];
         parts.into_iter().flatten().collect()
@@ -58,7 +61,7 @@ impl After {
 /// All calls of a program on one input.
 macro_rules! answers {
     ($name:ident, $program:ident) => {
-        fn $name(input: &Input) -> [After; 7] {
+        fn $name(input: &Input) -> [After; 8] {
             let mut read = After::lent("read", input);
             let r = $program::read(&input.book, &mut read.table, &mut read.slots);
             read.result = vec![r.code, r.place, r.n, r.m, r.items];
@@ -89,6 +92,15 @@ macro_rules! answers {
                 .flat_map(|leg| [leg.item, leg.upper, leg.lower])
                 .collect();
 
+            let mut page = After::lent("page", input);
+            let a = &mut page;
+            let (table, slots, plan, legs) = (&mut a.table, &mut a.slots, &mut a.plan, &mut a.legs);
+            let r = $program::page(book, run, table, slots, plan, legs, &mut a.page);
+            let length = r.length;
+            let r = r.assembly;
+            a.result = vec![r.code, r.place, r.commands, r.legs, length];
+            a.result.extend(r.fewest.map(u64::from));
+
             let out = input.out.clone();
             let mut write = After {
                 call: "write",
@@ -110,7 +122,16 @@ macro_rules! answers {
             let (state, command) = input.portable;
             let portable = looked_up("portable", $program::portable(state, command));
 
-            [read, check, assemble, assemble_legs, write, ridge, portable]
+            [
+                read,
+                check,
+                assemble,
+                assemble_legs,
+                page,
+                write,
+                ridge,
+                portable,
+            ]
         }
     };
 }
@@ -118,11 +139,12 @@ answers!(by_library, verified);
 answers!(by_plain_program, plain);
 
 /// The calls with the codes that each has.
-const CODES: [(&str, &[u64]); 7] = [
+const CODES: [(&str, &[u64]); 8] = [
     ("read", &[0, 1, 2, 3, 4, 5, 6, 7]),
     ("check", &[0, 1, 2, 3, 4, 5, 6, 7, 8, 12]),
     ("assemble", &[0, 1, 2, 3, 4, 5, 6, 7, 8, 9, 10, 11, 12]),
     ("assemble_legs", &[0, 1, 2, 3, 4, 5, 6, 7, 8, 9, 10, 11, 12]),
+    ("page", &[0, 1, 2, 3, 4, 5, 6, 7, 8, 9, 10, 11, 12]),
     ("write", &[0, 1, 5, 7]),
     ("ridge", &[0, 5]),
     ("portable", &[0, 5]),

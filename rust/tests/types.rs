@@ -1,8 +1,10 @@
 //! The safe types on the cases of a second program: each answer as a plan, a book or a fault.
 
-use rollback::calls::{self, POINTS_LEN};
+use core::mem::{align_of, offset_of, size_of};
+
+use rollback::calls::{self, Assembly, Leg, Lookup, Paged, Reading, Writing, POINTS_LEN};
 use rollback::{record_at, Book, Fault, Item, Kind, WriteFault, NONE};
-use rollback_cases::{assemble_cases, book_cases, q5_run, q_book};
+use rollback_cases::{assemble_cases, book_cases, page_cases, q5_run, q_book};
 
 fn code_and_place(fault: &Fault) -> [u64; 2] {
     [
@@ -38,6 +40,31 @@ fn plans() {
         };
         assert_eq!(head, [case.code, case.place], "case {number}");
         assert_eq!(fewest, case.fewest, "case {number}");
+    }
+}
+
+#[test]
+fn pages() {
+    for (number, case) in page_cases().iter().enumerate() {
+        // Here buffers are never short.
+        if case.head[0] == 1 {
+            continue;
+        }
+        let length = case.head[4] as usize;
+        match rollback::plan(&case.book, &case.run) {
+            Ok(plan) => {
+                assert_eq!(case.head[0], 0, "case {number}");
+                let expected = &case.page_after[..length];
+                assert_eq!(plan.page().as_bytes(), expected, "case {number}");
+                let commands = plan
+                    .page()
+                    .lines()
+                    .flat_map(|line| line.split_whitespace().skip(5))
+                    .map(|command| command.parse().unwrap());
+                assert_eq!(commands.collect::<Vec<u8>>(), plan.commands());
+            }
+            Err(fault) => assert_eq!(code_and_place(&fault), case.head[..2], "case {number}"),
+        }
     }
 }
 
@@ -187,6 +214,52 @@ fn a_plan_reads_as_lines() {
         plan.to_string(),
         "send 0\nitem 3 from point 2 to 1: nothing\nitem 1 from point 1 to 0: 0\n"
     );
+    assert_eq!(
+        plan.page(),
+        "  1  2  1   3  0                        \n  2  1  0   1  1  0                     \n"
+    );
     let nothing = rollback::plan(&q_book(), &rollback::run(&[], &[7])).unwrap();
     assert_eq!(nothing.to_string(), "send nothing\n");
+    assert_eq!(nothing.page(), "");
+}
+
+/// Sizes and offsets as c/header.c has them of the header's structs.
+#[test]
+fn results_are_laid_out_as_in_the_header() {
+    assert_eq!(size_of::<Reading>(), 40);
+    assert_eq!(size_of::<Assembly>(), 104);
+    assert_eq!(offset_of!(Assembly, fewest), 32);
+    assert_eq!(size_of::<Paged>(), 112);
+    assert_eq!(offset_of!(Paged, assembly), 0);
+    assert_eq!(offset_of!(Paged, length), 104);
+    assert_eq!(size_of::<Writing>(), 24);
+    assert_eq!(size_of::<Lookup>(), 24);
+    assert_eq!((size_of::<Leg>(), align_of::<Leg>()), (3, 1));
+    assert_eq!(
+        calls::PAGE_LEN,
+        calls::LEG_STRUCTS_LEN * calls::PAGE_LINE_LEN
+    );
+}
+
+/// Without room for the text there is none.
+#[test]
+fn a_page_without_its_text() {
+    let mut page = [b' '; calls::PAGE_LEN];
+    let paged = |length| Paged {
+        assembly: Assembly {
+            code: 0,
+            place: 0,
+            commands: 0,
+            legs: 0,
+            fewest: [NONE; POINTS_LEN],
+        },
+        length,
+    };
+    assert_eq!(paged(2).text(&page), Some("  "));
+    assert_eq!(paged(0).text(&page), Some(""));
+    for length in [calls::PAGE_LEN as u64 + 1, u64::MAX] {
+        assert_eq!(paged(length).text(&page), None);
+    }
+    page[1] = 0xFF;
+    assert_eq!(paged(2).text(&page), None);
 }

@@ -1,7 +1,7 @@
 //! The cases that a second program has answered, against the library.
 
 use rollback::calls::{self, Leg, Lookup, Reading};
-use rollback_cases::{assemble_cases, book_cases, masks, write_cases};
+use rollback_cases::{assemble_cases, book_cases, masks, page_cases, write_cases};
 
 const FILL: u8 = 0xA5;
 
@@ -64,6 +64,50 @@ fn plans() {
         cases.len()
     );
     assert_eq!(cases.len(), 900);
+}
+
+#[test]
+fn pages() {
+    let cases = page_cases();
+    for (number, case) in cases.iter().enumerate() {
+        let (mut table, mut slots) = (case.table.clone(), case.slots.clone());
+        let (mut plan, mut legs) = (case.plan.clone(), case.legs.clone());
+        let mut page = case.page.clone();
+        let (book, run) = (&case.book, &case.run);
+        let r = calls::page(
+            book, run, &mut table, &mut slots, &mut plan, &mut legs, &mut page,
+        );
+        let a = r.assembly;
+        let head = [a.code, a.place, a.commands, a.legs, r.length];
+        assert_eq!(head, case.head, "case {number}");
+        assert_eq!(a.fewest, case.fewest, "numbers of case {number}");
+        let (given, rest) = page.split_at(case.page_after.len());
+        assert_eq!(given, case.page_after, "page of case {number}");
+        assert_eq!(
+            rest,
+            &case.page[given.len()..],
+            "page of case {number} past its lines"
+        );
+        assert_eq!(
+            r.text(&page).map(|text| text.len() as u64),
+            Some(r.length),
+            "case {number}"
+        );
+
+        // All else is assembling's, unless the page is short.
+        let (mut table_after, mut slots_after) = (case.table.clone(), case.slots.clone());
+        let (mut plan_after, mut legs_after) = (case.plan.clone(), case.legs.clone());
+        if page.len() >= calls::PAGE_LEN {
+            let (table, slots) = (&mut table_after, &mut slots_after);
+            let again = calls::assemble(book, run, table, slots, &mut plan_after, &mut legs_after);
+            assert_eq!(a, again, "case {number}");
+        }
+        let after = (table, slots, plan, legs);
+        let expected = (table_after, slots_after, plan_after, legs_after);
+        assert!(after == expected, "buffers of case {number}");
+    }
+    println!("pages: {} cases", cases.len());
+    assert_eq!(cases.len(), 700);
 }
 
 #[test]

@@ -35,7 +35,7 @@ use Rattle.runs.specs.Computed.{runOf, runFaulty}
 use Rattle.runs.proofs.Formed.{run-value, run-formed}
 use Rattle.assembly.specs.declared.Assembly.{Assembly}
 use Rattle.assembly.specs.Lent.{legsBytes, LegForm, inBytes, Room, AllLent, allSizes}
-use Rattle.assembly.specs.Assembles.{Left, Assembles, short, unaccepted, faulty, answered}
+use Rattle.assembly.specs.Assembles.{refusal, resultOf, Left, Assembles, short, unaccepted, faulty, answered}
 use Rattle.assembly.specs.Contract.{answerOf, plannedBy, assembleBy, AssembleAs}
 use Rattle.assembly.proofs.Lengths.{some-short, all-long}
 
@@ -187,6 +187,14 @@ module _ {E : Type 0} {form : LegForm E} (even : Even form) {book run : List ℕ
       go (by-check long n q) = refused (f .code) (f .place) q
       go (by-run long z e q) = refused 9 0 q
       go (by-answer long z e q) = given (answerOf (b long z) run) (small long z e) q
+
+  -- there are never more legs than the buffer has room for
+  pub legs-few : r .legs ≤ 32
+  legs-few = go outcome
+    where
+      go : Outcome form book run l → r .legs ≤ 32
+      go (refused code place q) = omega (arith, ap (λ (x : Assembly). x .legs) (c .result ∙ q Assembly refusal resultOf))
+      go (given a small q) = omega (arith, ap (λ (x : Assembly). x .legs) (c .result ∙ q Assembly refusal resultOf), small .legs-small, small .legs-counted)
 
   left : (a : Answer) → Small a → LongEnough (allSizes form l) → Gives form book run l a → Left form a (l .room) r (l′ .room)
   left a s long q =

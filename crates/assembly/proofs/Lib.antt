@@ -10,6 +10,8 @@ pub mod AnswerReached
 pub mod Lengths
 pub mod WaysOfAssemble
 pub mod Exactly
+pub mod LegsRead
+pub mod After
 pub mod Unique
 pub mod Demand
 pub mod DemandUnique

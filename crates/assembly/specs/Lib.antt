@@ -3,6 +3,7 @@ pub mod Items
 pub mod Links
 pub mod ChainFollowed
 pub mod Lent
+pub mod LegsRead
 pub mod Assembles
 pub mod Contract
 pub mod Demand

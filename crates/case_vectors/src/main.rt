@@ -2,7 +2,6 @@
 // numbers, a line each.
 // A case is the book's length and the run's, two bytes each; the book; the run.
 use assembly::Assembly;
-ghost use Rattle.io.specs.Counts.{Counts};
 
 // The bytes that the legs take, at most 96.
 fn leg_bytes(legs: u64) -> usize {
@@ -27,23 +26,14 @@ fn run_case(book: &[u8], run: &[u8]) {
     print_answer(r, &plan, &legs);
 }
 
-// The file's next bytes, as many as asked for or as there is room. The answer is their number.
-fn read_part(file: i32, size: u16, buf: &mut [u8]) -> usize
-    ensures { λ r. ⌜ Counts r (now (buf .exit)) ⌝ }
-{
-    let wanted = io::count(size as isize, buf);
-    let got = io::read_full(file, &mut buf[..wanted]);
-    io::count(got as isize, buf)
-}
-
 // The file's next case.
 fn next_case(file: i32) {
     let mut sizes = [0u8; 4];
     let mut book = [0u8; 31111];
     let mut run = [0u8; 302];
     io::read_full(file, &mut sizes);
-    let book_size = read_part(file, octets::u16_at(&sizes, 0) as u16, &mut book);
-    let run_size = read_part(file, octets::u16_at(&sizes, 2) as u16, &mut run);
+    let book_size = vectors::read_part(file, octets::u16_at(&sizes, 0) as u16, &mut book);
+    let run_size = vectors::read_part(file, octets::u16_at(&sizes, 2) as u16, &mut run);
     run_case(&book[..book_size], &run[..run_size]);
 }
 

@@ -3,8 +3,13 @@ use mathlib.Core.Path.{_≡_, subst⁻¹, subst₂}
 use mathlib.Core.List.{List}
 use Prim.Native.Nat.{ℕ}
 use prog.Routine.{Routine}
-use Rattle.base.specs.Lists.{Bytes}
+use lib.ListN.{length}
+use Rattle.base.specs.Lists.{Bytes, Written}
+use Rattle.base.specs.Sizes.{LongEnough}
+use Rattle.reversal.specs.Runs.{Run}
 use Rattle.book.specs.Lent.{Lent}
+use Rattle.book.specs.Example.{bytesQ}
+use Rattle.runs.specs.RunBytes.{runBytes}
 use Rattle.reader.specs.declared.Reading.{Reading}
 use Rattle.reader.specs.Contract.{ReadAs}
 use Rattle.reader.proofs.Exactly.{reads}
@@ -23,7 +28,7 @@ use Rattle.writer.proofs.Exactly.{writes}
 use Rattle.writer.proofs.RoundTrips.{writes-zero↔, write-well-formed, write-length}
 use Rattle.writer.proofs.write as write
 use Rattle.assembly.specs.declared.Assembly.{Assembly}
-use Rattle.assembly.specs.Lent.{LegForm, inBytes, AllLent}
+use Rattle.assembly.specs.Lent.{LegForm, inBytes, AllLent, allSizes}
 use Rattle.assembly.specs.Assembles.{Assembles}
 use Rattle.assembly.specs.Contract.{AssembleAs}
 use Rattle.assembly.proofs.Exactly.{even-bytes, assembles}
@@ -40,6 +45,14 @@ use Rattle.ridge.proofs.lookup as lookup
 use Rattle.ridge.proofs.table as ridge-table
 use Rattle.portable_rule.specs.Portable.{portable}
 use Rattle.portable.proofs.table as portable-table
+use Rattle.paper.specs.declared.Paged.{Paged}
+use Rattle.paper.specs.Pages.{pageSizes, Pages}
+use Rattle.paper.specs.Cases.{PageGiven}
+use Rattle.paper.specs.Contract.{PageAs}
+use Rattle.paper.proofs.Exactly.{laid-out}
+use Rattle.paper.proofs.TakenDown.{taken-down, page-demand}
+use Rattle.paper.proofs.Unique.{as-assembling}
+use Rattle.paper.proofs.lay_out as lay-out
 use Rattle.planner.specs.Structs.{inStructs}
 use Rattle.planner.proofs.Structs.{even-structs}
 use Rattle.planner.proofs.rollback_assemble_legs as assemble-legs
@@ -47,8 +60,8 @@ use Rattle.report.specs.Contract.{ReportAs}
 use Rattle.report.proofs.Exactly.{reports}
 use Rattle.report.proofs.report as report
 use Rattle.claims.specs.Always.{Always}
-use Rattle.claims.specs.Claims.{onRead, onWrite, onAssemble, onLegs, onLookup, onOutcomes, onReport, WellWritten, ReadClaims, ChecksWrong, CheckClaims, WriteClaims, AssembleClaims, LegsClaims, LookupClaims, RuleClaims, ConstantTable, RidgeTable, PortableTable, ReportClaims}
-use Rattle.claims.specs.Worked.{ChecksWorked, AssemblesWorked}
+use Rattle.claims.specs.Claims.{onRead, onWrite, onAssemble, onLegs, onLayOut, onLookup, onOutcomes, onReport, WellWritten, ReadClaims, ChecksWrong, CheckClaims, WriteClaims, AssembleClaims, LegsClaims, AsAssembling, PaperClaims, LookupClaims, RuleClaims, ConstantTable, RidgeTable, PortableTable, ReportClaims}
+use Rattle.claims.specs.Worked.{ChecksWorked, AssemblesWorked, PaperWorked}
 use Rattle.claims.proofs.Weaker.{weaker}
 use Rattle.claims.proofs.RoundTrips.{read-back, write-back}
 
@@ -103,6 +116,17 @@ module _ (ρ : Routine) where
             (λ κs a r e c. demand even-structs (c .bytes) (assembles even-structs c)) always;
       }
 
+  pub paper-claims : Always lay-out.ended ρ (onLayOut PageAs) → PaperClaims ρ
+  paper-claims always =
+      record {
+        says = weaker lay-out.ended ρ (onLayOut PageAs) _ (λ κs a r e c. laid-out c) always;
+        as-assembling =
+            weaker lay-out.ended ρ (onLayOut PageAs) (onLayOut AsAssembling)
+            (λ κs a r e c long q l″ x. as-assembling (c .bytes) (laid-out c) long x) always;
+        taken-down = weaker lay-out.ended ρ (onLayOut PageAs) _ (λ κs a r e c. taken-down (c .bytes) (laid-out c)) always;
+        demand-three = weaker lay-out.ended ρ (onLayOut PageAs) _ (λ κs a r e c. page-demand (c .bytes) (laid-out c)) always;
+      }
+
   pub lookup-claims : {d : DeviceRule} {f : ℕ → ℕ → ℕ} → WorksOut d f → Always lookup.ended ρ (onLookup (λ s k r. r ≡ lookupOf d f s k))
       → LookupClaims d ρ
   lookup-claims {d} {f} works always =
@@ -138,6 +162,12 @@ worked-run form {l = l} {r} {l′} x =
       refused = λ code place gives long. gives .left x long;
     }
 
+worked-page : {u : Run} {text : List ℕ} → PageGiven u text → {book run : List ℕ} → book ≡ bytesQ → run ≡ runBytes u → {l : AllLent ℕ} {page : List ℕ}
+    {r : Paged} {l′ : AllLent ℕ} {page′ : List ℕ} → Pages book run l page r l′ page′ → LongEnough (allSizes inBytes l) → LongEnough (pageSizes page)
+    → Written text page page′ × (r .length ≡ length text)
+worked-page given e f {l} {page} {r} {l′} {page′} x long enough =
+    given .written (subst₂ (λ (y z : List ℕ). Pages y z l page r l′ page′) e f x) long enough
+
 module _ (ρ : Routine) where
   pub check-worked : Always check.ended ρ (onRead CheckAs) → Always check.ended ρ (onRead ChecksWorked)
   check-worked = weaker check.ended ρ (onRead CheckAs) (onRead ChecksWorked) (λ κs a r e c answer judges long. judges .result (checks c) long)
@@ -151,3 +181,8 @@ module _ (ρ : Routine) where
   legs-worked =
       weaker assemble-legs.ended ρ (onLegs (AssembleAs inStructs)) (onLegs (AssemblesWorked inStructs))
       (λ κs a r e c. worked-run inStructs (assembles even-structs c))
+
+  pub paper-worked : Always lay-out.ended ρ (onLayOut PageAs) → Always lay-out.ended ρ (onLayOut PaperWorked)
+  paper-worked =
+      weaker lay-out.ended ρ (onLayOut PageAs) (onLayOut PaperWorked)
+      (λ κs a r e c u text given same-book same-run long enough. worked-page given same-book same-run (laid-out c) long enough)

@@ -90,6 +90,14 @@ use Rattle.portable_rule.proofs.outcomes.Symbol.{routine as portable-outcomes-r
 use Rattle.portable_rule.proofs.outcomes.Met.{met as portable-outcomes-met}
 use Rattle.portable.proofs.table.Symbol.{routine as portable-table-routine}
 use Rattle.portable.proofs.table.Met.{met as portable-table-met}
+use Rattle.paper.specs.declared.Paged.{Paged}
+use Rattle.paper.specs.Pages.{Pages}
+use Rattle.paper.specs.Cases.{Lines, PageRuns}
+use Rattle.paper.proofs.Unique.{pages-unique}
+use Rattle.paper.proofs.Cases.{lines, page-runs}
+use Rattle.paper.proofs.lay_out as lay-out
+use Rattle.paper.proofs.lay_out.Symbol.{routine as lay-out-routine}
+use Rattle.paper.proofs.lay_out.Met.{met as lay-out-met}
 use Rattle.planner.specs.Structs.{inStructs}
 use Rattle.planner.specs.Cases.{StructRuns}
 use Rattle.planner.proofs.Cases.{struct-runs}
@@ -104,6 +112,8 @@ use Rattle.planner.proofs.rollback_assemble.Met.{met as exported-assemble-met}
 use Rattle.planner.proofs.rollback_assemble_legs as assemble-legs
 use Rattle.planner.proofs.rollback_assemble_legs.Symbol.{routine as assemble-legs-routine}
 use Rattle.planner.proofs.rollback_assemble_legs.Met.{met as assemble-legs-met}
+use Rattle.planner.proofs.rollback_page.Symbol.{routine as exported-page-routine}
+use Rattle.planner.proofs.rollback_page.Met.{met as exported-page-met}
 use Rattle.planner.proofs.rollback_ridge.Symbol.{routine as exported-ridge-routine}
 use Rattle.planner.proofs.rollback_ridge.Met.{met as exported-ridge-met}
 use Rattle.planner.proofs.rollback_portable.Symbol.{routine as exported-portable-routine}
@@ -115,10 +125,10 @@ use Rattle.report.proofs.Unique.{prints-unique}
 use Rattle.report.proofs.Cases.{examples}
 use Rattle.report.proofs.report.Symbol.{routine as report-routine}
 use Rattle.report.proofs.report.Met.{met as report-met}
-use Rattle.claims.specs.Claims.{onRead, onAssemble, onLegs, ReadClaims, CheckClaims, WriteClaims, AssembleClaims, LegsClaims, LookupClaims, RuleClaims, RidgeTable, PortableTable, ReportClaims}
+use Rattle.claims.specs.Claims.{onRead, onAssemble, onLegs, onLayOut, ReadClaims, CheckClaims, WriteClaims, AssembleClaims, LegsClaims, PaperClaims, LookupClaims, RuleClaims, RidgeTable, PortableTable, ReportClaims}
 use Rattle.claims.specs.Always.{Always}
-use Rattle.claims.specs.Worked.{ChecksWorked, AssemblesWorked}
-use Rattle.claims.proofs.Calls.{read-claims, check-claims, write-claims, assemble-claims, legs-claims, lookup-claims, rule-claims, ridge-table-claims, portable-table-claims, report-claims, check-worked, assemble-worked, legs-worked}
+use Rattle.claims.specs.Worked.{ChecksWorked, AssemblesWorked, PaperWorked}
+use Rattle.claims.proofs.Calls.{read-claims, check-claims, write-claims, assemble-claims, legs-claims, paper-claims, lookup-claims, rule-claims, ridge-table-claims, portable-table-claims, report-claims, check-worked, assemble-worked, legs-worked, paper-worked}
 
 -- ---- the meaning
 
@@ -218,6 +228,13 @@ exported-assembling = assemble-claims exported-assemble-routine (λ M. exported-
 pub assembling-legs : LegsClaims assemble-legs-routine
 assembling-legs = legs-claims assemble-legs-routine (λ M. assemble-legs-met)
 
+-- on paper: demand 3 is a field of these two as well
+pub laying-out : PaperClaims lay-out-routine
+laying-out = paper-claims lay-out-routine (λ M. lay-out-met)
+
+pub exported-laying-out : PaperClaims exported-page-routine
+exported-laying-out = paper-claims exported-page-routine (λ M. exported-page-met)
+
 -- the ridge repeater: its lookup, its constant table, and its rule's function, which the generator prints
 pub looking-up-ridge : LookupClaims ridge ridge-lookup-routine
 looking-up-ridge = lookup-claims ridge-lookup-routine ridge-works-out (λ M. ridge-lookup-met)
@@ -270,6 +287,10 @@ pub only-assembling : {E : Type 0} {form : LegForm E} {book run : List ℕ} {l :
     → Assembles form book run l r l′ → Assembles form book run l q l″ → (r ≡ q) × (l′ ≡ l″)
 only-assembling h x y = assembles-unique h x y
 
+pub only-laying-out : {book run : List ℕ} {l : AllLent ℕ} {page : List ℕ} {r q : Paged} {l′ l″ : AllLent ℕ} {page′ page″ : List ℕ} → Bytes book
+    → Pages book run l page r l′ page′ → Pages book run l page q l″ page″ → (r ≡ q) × (l′ ≡ l″) × (page′ ≡ page″)
+only-laying-out h x y = pages-unique h x y
+
 pub only-looking-up : (d : DeviceRule) (state command : ℕ) (r q : LookupResult) → Looked d state command r → Looked d state command q → r ≡ q
 only-looking-up = looked-unique
 
@@ -320,6 +341,13 @@ runs-in-structs = runs inStructs
 pub leg-structs : StructRuns
 leg-structs = struct-runs
 
+-- a line with all its columns, byte by byte, and taken apart; the pages of Q5, Q8, Q9 and Q11; a short page
+pub lines-on-paper : Lines
+lines-on-paper = lines
+
+pub runs-on-paper : PageRuns
+runs-on-paper = page-runs
+
 -- the same books and runs, of the compiled routines
 pub worked-checking : Always check.ended check-routine (onRead ChecksWorked)
 worked-checking = check-worked check-routine (λ M. check-met)
@@ -329,6 +357,9 @@ worked-assembling = assemble-worked assemble-routine (λ M. assemble-met)
 
 pub worked-legs : Always assemble-legs.ended assemble-legs-routine (onLegs (AssemblesWorked inStructs))
 worked-legs = legs-worked assemble-legs-routine (λ M. assemble-legs-met)
+
+pub worked-paper : Always lay-out.ended lay-out-routine (onLayOut PaperWorked)
+worked-paper = paper-worked lay-out-routine (λ M. lay-out-met)
 
 -- the program's text for Q5, Q8, Q9 and Q11
 pub printed : Examples

@@ -34,6 +34,9 @@ use Rattle.ridge_rule.proofs.outcomes as outcomes
 use Rattle.ridge.proofs.table as ridge-table
 use Rattle.portable_rule.specs.Portable.{portable}
 use Rattle.portable.proofs.table as portable-table
+use Rattle.paper.specs.declared.Paged.{Paged}
+use Rattle.paper.specs.Pages.{pageSizes, Pages, PageDemand, TakenDown}
+use Rattle.paper.proofs.lay_out as lay-out
 use Rattle.planner.specs.declared.Leg.{Leg}
 use Rattle.planner.specs.Structs.{inStructs}
 use Rattle.planner.proofs.rollback_assemble_legs as assemble-legs
@@ -69,6 +72,14 @@ abbrev pub onLegs : Assemble Leg → After assemble-legs.ended
 onLegs P κs (book, (run, (table, (slots, (plan, (legs, _)))))) r (_, (_, (table′, (slots′, (plan′, (legs′, _)))))) =
     P (now book) (now run) (allLent (lent (now table) (now slots)) (now plan) (now legs)) r
     (allLent (lent (now table′) (now slots′)) (now plan′) (now legs′))
+
+abbrev pub LayOut : Type 1
+LayOut = List ℕ → List ℕ → AllLent ℕ → List ℕ → Paged → AllLent ℕ → List ℕ → Type 0
+
+abbrev pub onLayOut : LayOut → After lay-out.ended
+onLayOut P κs (book, (run, (table, (slots, (plan, (legs, (page, _))))))) r (_, (_, (table′, (slots′, (plan′, (legs′, (page′, _))))))) =
+    P (now book) (now run) (allLent (lent (now table) (now slots)) (now plan) (now legs)) (now page) r
+    (allLent (lent (now table′) (now slots′)) (now plan′) (now legs′)) (now page′)
 
 -- the two devices' lookups take and give the same, and so do their rules' functions
 abbrev pub onLookup : (ℕ → ℕ → LookupResult → Type 0) → After lookup.ended
@@ -154,6 +165,22 @@ pub record AssembleClaims (ρ : Routine) : Type 2 where
 pub record LegsClaims (ρ : Routine) : Type 2 where
   pub says : Always assemble-legs.ended ρ (onLegs (Assembles inStructs))
   pub demand-three : Always assemble-legs.ended ρ (onLegs (Demand inStructs))
+
+-- on a page that is long enough, result and buffers are assembling's: whatever it gives for the same book, run and buffers. This follows from the first
+-- claim, since assembling has one answer only.
+abbrev pub AsAssembling : LayOut
+AsAssembling book run l page r l′ page′ =
+    LongEnough (pageSizes page) → (q : Assembly) (l″ : AllLent ℕ) → Assembles inBytes book run l q l″ → (r .assembly ≡ q) × (l′ ≡ l″)
+
+-- on paper
+pub record PaperClaims (ρ : Routine) : Type 2 where
+  -- 02: "The call takes and fills what assembling does, and a page buffer ..": the page's layout, and what each refusal leaves behind
+  pub says : Always lay-out.ended ρ (onLayOut Pages)
+  pub as-assembling : Always lay-out.ended ρ (onLayOut AsAssembling)
+  -- 02: "The commands, taken down the page, are the plan."
+  pub taken-down : Always lay-out.ended ρ (onLayOut (λ book run l page r l′ page′. TakenDown r l′ page′))
+  -- demand 3, by assembling's
+  pub demand-three : Always lay-out.ended ρ (onLayOut PageDemand)
 
 -- of each device's lookup
 pub record LookupClaims (d : DeviceRule) (ρ : Routine) : Type 2 where

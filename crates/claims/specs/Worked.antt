@@ -2,6 +2,8 @@
 use mathlib.Core.Path.{_≡_}
 use mathlib.Core.List.{List}
 use Prim.Native.Nat.{ℕ}
+use lib.ListN.{length}
+use Rattle.base.specs.Lists.{Written}
 use Rattle.base.specs.Sizes.{LongEnough}
 use Rattle.reversal.specs.Runs.{Run}
 use Rattle.reversal.specs.Answers.{Answer}
@@ -11,10 +13,12 @@ use Rattle.reader.specs.declared.Reading.{Reading}
 use Rattle.checker.specs.Cases.{Judges}
 use Rattle.runs.specs.RunBytes.{runBytes}
 use Rattle.assembly.specs.declared.Assembly.{Assembly}
-use Rattle.assembly.specs.Lent.{LegForm, AllLent, allSizes}
+use Rattle.assembly.specs.Lent.{LegForm, inBytes, AllLent, allSizes}
 use Rattle.assembly.specs.Assembles.{refusal, Left}
 use Rattle.assembly.specs.Cases.{BytesGive, BookRefused}
-use Rattle.claims.specs.Claims.{Read}
+use Rattle.paper.specs.Pages.{pageSizes}
+use Rattle.paper.specs.Cases.{PageGiven}
+use Rattle.claims.specs.Claims.{Read, LayOut}
 
 -- the books of checker/specs/Cases
 abbrev pub ChecksWorked : Read
@@ -26,3 +30,9 @@ pub record AssemblesWorked {E : Type 0} (form : LegForm E) (book run : List ℕ)
       → Left form a (l .room) r (l′ .room)
   pub refused : (code place : ℕ) → BookRefused form book code place → LongEnough (allSizes form l)
       → (r ≡ refusal code place) × (l′ .room ≡ l .room)
+
+-- the pages of paper/specs/Cases
+abbrev pub PaperWorked : LayOut
+PaperWorked book run l page r l′ page′ =
+    (u : Run) (text : List ℕ) → PageGiven u text → book ≡ bytesQ → run ≡ runBytes u → LongEnough (allSizes inBytes l) → LongEnough (pageSizes page)
+    → Written text page page′ × (r .length ≡ length text)

@@ -7,9 +7,9 @@ use native.Mathlib.Nat.{add-zero, sub-zero}
 use native.Mathlib.Numerals.{add-one}
 use native.Mathlib.Decide.{decLt}
 use native.Mathlib.Omega.{arith}
-use borrow.Author.Tests.{leb-true, le-leb, lt-leb}
+use borrow.Author.Tests.{leb-true, leb-false, le-leb, lt-leb}
 use lib.Dec.{T, leb}
-use lib.ListN.{length, getD, set, take, drop, length-drop, length-append, List·getD-eq-default}
+use lib.ListN.{length, getD, set, take, drop, replicate, length-drop, length-append, List·getD-eq-default}
 use lib.Seq.{set-out, sets, drop-cons, take-at}
 use Rattle.base.specs.Lists.{Each}
 use Rattle.base.proofs.Lists.{each-at}
@@ -17,7 +17,7 @@ use Rattle.octets.specs.Le.{bytesLe}
 use Rattle.octets.specs.Parts.{piece}
 
 -- past the end nothing is stored
-sets-past : (l : List ℕ) (i : ℕ) (xs : List ℕ) → length l ≤ i → sets l i xs ≡ l
+pub sets-past : (l : List ℕ) (i : ℕ) (xs : List ℕ) → length l ≤ i → sets l i xs ≡ l
 sets-past l i [] h = refl
 sets-past l i (x ∷ xs) h = rw (set-out l i x h) (sets-past l (suc i) xs (omega arith))
 
@@ -52,6 +52,19 @@ module _ (whole : List ℕ) (left x to : ℕ) where
 
   pub put-past : (d : List ℕ) → sets d to (bytesLe left x) ≡ whole → length d ≤ to → d ≡ whole
   put-past d w h = sym (sets-past d to (bytesLe left x) h) ∙ w
+
+-- ---- the loop of `fill`
+module _ (whole : List ℕ) (left b to : ℕ) where
+  pub fill-again : (d : List ℕ) → sets d to (replicate left b) ≡ whole → (left ≡ 0 → ⊥) → sets (set d to b) (to + 1) (replicate (left - 1) b) ≡ whole
+  fill-again d w h =
+      let e : left ≡ suc (left - 1) = omega arith in
+      rw (add-one to) (rw e at w)
+
+  pub fill-none : (d : List ℕ) → sets d to (replicate left b) ≡ whole → left ≡ 0 → d ≡ whole
+  fill-none d w h = rw h at w
+
+  pub fill-past : (d : List ℕ) → sets d to (replicate left b) ≡ whole → length d ≤ to → d ≡ whole
+  fill-past d w h = sym (sets-past d to (replicate left b) h) ∙ w
 
 -- ---- the loop of `copy`
 pub copy-start : (n : ℕ) (s : List ℕ) (p : ℕ) (d : List ℕ) (q : ℕ) → sets d q (piece (n - 0) s (p + 0)) ≡ sets d q (piece n s p)
@@ -94,6 +107,10 @@ room-same len at n h = go (decLt len (at + n))
 pub room-is : (r : Bool) (len at n : ℕ) → r ≡ leb (at + n) len → not r ≡ false → at + n ≤ len
 room-is true len at n e f = leb-true (at + n) len (sym e)
 room-is false len at n e f = absurd (subst T f tt)
+
+pub no-room : (r : Bool) (len at n : ℕ) → r ≡ leb (at + n) len → not r ≡ true → len < at + n
+no-room true len at n e f = absurd (subst (λ (t : Bool). T (not t)) f tt)
+no-room false len at n e f = leb-false (at + n) len (sym e)
 
 -- ---- the bytes that are copied
 pub length-piece : (n : ℕ) (s : List ℕ) (p : ℕ) → length (piece n s p) ≡ n

@@ -3,7 +3,7 @@
 ghost use mathlib.Core.Path.{_≡_};
 ghost use Prim.Native.Nat.{_+_, _<_, _≤_};
 ghost use lib.Dec.{leb};
-ghost use lib.ListN.{length, getD};
+ghost use lib.ListN.{length, getD, replicate};
 ghost use lib.Seq.{sets};
 ghost use Rattle.octets.specs.Le.{bytesLe};
 ghost use Rattle.octets.specs.Parts.{leAt, piece};
@@ -98,7 +98,7 @@ pub fn u64_at(s: &[u8], at: usize) -> u64
 }
 
 // Whether a row of `len` bytes has n from `at` on.
-fn has_room(len: usize, at: usize, n: usize) -> bool
+pub fn has_room(len: usize, at: usize, n: usize) -> bool
     ensures { λ r. ⌜ r ≡ leb (at + n) len ⌝ }
 {
     if len < at {
@@ -140,6 +140,22 @@ pub fn put_le(n: usize, v: u64, d: &mut [u8], at: usize)
         d[to] = (x % 256) as u8;
         left = left - 1;
         x = x / 256;
+        to = to + 1;
+    }
+}
+
+// Stores the byte b n times, from `at` on, as far as there is room.
+pub fn fill(n: usize, b: u8, d: &mut [u8], at: usize)
+    ensures { λ _. ⌜ now (d .exit) ≡ sets (now (d .entry)) at (replicate n b) ⌝ }
+{
+    let mut left = n;
+    let mut to = at;
+    while to < d.len() {
+        if left == 0 {
+            return;
+        }
+        d[to] = b;
+        left = left - 1;
         to = to + 1;
     }
 }

@@ -1,17 +1,18 @@
 -- The structs made of the bytes are those of the chain's legs. Assumes nothing.
 use mathlib.Core.Path.{_≡_, refl, sym, ap, ap₂, _∙_, subst}
 use mathlib.Core.Bool.{Bool, true}
-use mathlib.Core.List.{List, [], _∷_, _++_, map, append-assoc}
-use Prim.Native.Nat.{ℕ, suc, _+_, _-_, _*_, _≤_, _<_}
+use mathlib.Core.List.{List, [], _∷_, map}
+use Prim.Native.Nat.{ℕ, suc, _+_, _-_, _≤_, _<_}
 use native.Mathlib.Decide.{decLt}
 use native.Mathlib.Omega.{arith}
-use lib.ListN.{length, getD, set, drop, length-append}
-use lib.Seq.{sets, sets-eq, getD-append-add}
+use lib.ListN.{length, set, take}
+use lib.Seq.{sets}
 use Rattle.base.specs.Lists.{Each}
 use Rattle.base.specs.Tests.{pick}
 use Rattle.base.specs.Compare.{less}
 use Rattle.base.specs.Sizes.{_for_}
 use Rattle.base.specs.Shorter.{anyShort}
+use Rattle.base.proofs.Lists.{stored}
 use Rattle.base.proofs.Sizes.{short-past, short-on}
 use Rattle.reversal.specs.Chains as chains
 use Rattle.reversal.specs.Answers.{Answer}
@@ -20,10 +21,12 @@ use Rattle.reader.specs.Contract.{lentBy}
 use Rattle.checker.specs.Contract.{checkBy}
 use Rattle.assembly.specs.declared.Assembly.{Assembly}
 use Rattle.assembly.specs.Lent.{legsBytes, inBytes, Room, AllLent, allLent, allSizes}
+use Rattle.assembly.specs.LegsRead.{legsRead}
 use Rattle.assembly.specs.Assembles.{refusal, resultOf}
 use Rattle.assembly.specs.Contract.{plannedBy, assembleBy, roomOf, AssembleAs}
+use Rattle.assembly.proofs.LegsRead.{legs-read}
 use Rattle.assembly.proofs.Lengths.{some-short}
-use Rattle.assembly.proofs.Exactly.{Even, even-bytes, Outcome, refused, given, outcome}
+use Rattle.assembly.proofs.Exactly.{Even, even-bytes, Outcome, refused, given, outcome, legs-few}
 use Rattle.planner.specs.declared.Leg.{Leg}
 use Rattle.planner.specs.declared.Whole.{Whole}
 use Rattle.planner.specs.Structs.{structOf, inStructs}
@@ -38,49 +41,26 @@ even-structs (l ∷ ls) = omega (arith, even-structs ls)
 module _ (n : ℕ) (s : List ℕ) (whole : List Leg) (i : ℕ) where
   pub legs-again : (legs : List Leg) (l : Leg) → sets legs i (structsIn s (n - i) i) ≡ whole → l ≡ legAt s i → i < n
       → sets (set legs i l) (i + 1) (structsIn s (n - (i + 1)) (i + 1)) ≡ whole
-  unfolding structsIn
+  unfolding legsRead
   legs-again legs l w e h =
       let f : n - i ≡ suc (n - (i + 1)) = omega arith in
       let g : suc i ≡ i + 1 = omega arith in
       subst (λ (k : ℕ). sets (set legs i l) k (structsIn s (n - (i + 1)) (i + 1)) ≡ whole) g (rw e (rw f at w))
 
   pub legs-done : (legs : List Leg) → sets legs i (structsIn s (n - i) i) ≡ whole → n ≤ i → legs ≡ whole
-  unfolding structsIn
+  unfolding legsRead
   legs-done legs w h =
       let f : n - i ≡ 0 = omega arith in
       rw f at w
 
--- ---- the structs in bytes that hold legs
-module _ (rest : List ℕ) where
-  leg-at : (front : List ℕ) (i : ℕ) → length front ≡ 3 * i → (l : chains.Leg) (more : List ℕ)
-      → legAt (front ++ (l .number ∷ l .upper ∷ l .lower ∷ more)) i ≡ structOf l
-  leg-at front i e l more =
-      ap₂ (λ (x y : ℕ). record { item = x; upper = y; lower = getD s (3 * i + 2) 0 }) (ap (λ (k : ℕ). getD s k 0) (omega arith) ∙ at 0) (at 1)
-      ∙ ap (λ (x : ℕ). record { item = l .number; upper = l .upper; lower = x }) (at 2)
-    where
-      s : List ℕ
-      s = front ++ (l .number ∷ l .upper ∷ l .lower ∷ more)
-
-      at : (k : ℕ) → getD s (3 * i + k) 0 ≡ getD (l .number ∷ l .upper ∷ l .lower ∷ more) k 0
-      at k =
-          subst (λ (x : ℕ). getD s (x + k) 0 ≡ getD (l .number ∷ l .upper ∷ l .lower ∷ more) k 0) e
-          (getD-append-add front (l .number ∷ l .upper ∷ l .lower ∷ more) k 0)
-
-  structs-in : (ls : List chains.Leg) (front : List ℕ) (i : ℕ) → length front ≡ 3 * i → structsIn (front ++ (legsBytes ls ++ rest)) (length ls) i ≡ map structOf ls
-  unfolding structsIn legsBytes
-  structs-in [] front i e = refl
-  structs-in (l ∷ ls) front i e =
-      ap₂ (λ (x : Leg) (xs : List Leg). x ∷ xs) (leg-at front i e l (legsBytes ls ++ rest))
-      (ap (λ (x : List ℕ). structsIn x (length ls) (i + 1)) (sym (append-assoc front three (legsBytes ls ++ rest)))
-      ∙ structs-in ls (front ++ three) (i + 1) (omega (arith, length-append front three, e)))
-    where
-      three : List ℕ
-      three = l .number ∷ l .upper ∷ l .lower ∷ []
-
+-- the structs of bytes that begin with a chain's legs
 chain-structs : (ls : List chains.Leg) → length ls ≤ 32 → structsIn (sets zeros 0 (legsBytes ls)) (length ls) 0 ≡ map structOf ls
 chain-structs ls h =
-    ap (λ (x : List ℕ). structsIn x (length ls) 0) (sets-eq (legsBytes ls) zeros 0 (omega (arith, even-bytes ls)))
-    ∙ structs-in (drop (0 + length (legsBytes ls)) zeros) ls [] 0 refl
+    let fits : length (legsBytes ls) ≤ length zeros = omega (arith, even-bytes ls) in
+    let front = stored (legsBytes ls) zeros (sets zeros 0 (legsBytes ls)) fits refl .front in
+    ap (map structOf)
+    (legs-read ls (sets zeros 0 (legsBytes ls)) (length ls) refl
+    (ap (λ (k : ℕ). take k (sets zeros 0 (legsBytes ls))) (sym (even-bytes ls)) ∙ front))
 
 -- ---- assembling with bytes
 module _ {book run : List ℕ} {read : Lent} {plan : List ℕ} {room : ℕ} (bytes : List ℕ) (h : Each (λ x. x < 256) book) (u : Each (λ x. x < 256) run) where
@@ -100,13 +80,6 @@ module _ {book run : List ℕ} {read : Lent} {plan : List ℕ} {r : Assembly} {r
   abbrev Went : Type 1
   Went = Outcome inBytes book run (allLent read plan zeros)
 
-  few : r .legs ≤ 32
-  few = go (outcome even-bytes c)
-    where
-      go : Went → r .legs ≤ 32
-      go (refused code place e) = omega (arith, ap (λ (x : Assembly). x .legs) (c .result ∙ e Assembly refusal resultOf))
-      go (given a small e) = omega (arith, ap (λ (x : Assembly). x .legs) (c .result ∙ e Assembly refusal resultOf), small .legs-small, small .legs-counted)
-
   pub whole-enough : (room : ℕ) → 32 ≤ room → WholeAs book run read plan room (record { result = r; bytes = bytes; count = r .legs }) read′ plan′
   whole-enough room h =
       record {
@@ -115,7 +88,7 @@ module _ {book run : List ℕ} {read : Lent} {plan : List ℕ} {r : Assembly} {r
         short = λ k. absurd (omega arith);
         enough = λ _. c;
         counted = refl;
-        within = (omega (arith, few), few);
+        within = (omega (arith, legs-few even-bytes c), legs-few even-bytes c);
       }
 
   module _ (legs : List Leg) (l : 32 ≤ length legs) where
@@ -134,7 +107,7 @@ module _ {book run : List ℕ} {read : Lent} {plan : List ℕ} {r : Assembly} {r
 
     room-written : (legs′ : List Leg) → legs′ ≡ sets legs 0 (structsIn bytes (r .legs) 0)
         → allLent read′ plan′ legs′ .room ≡ assembleBy inBytes book run (allLent read plan zeros) (λ code place. lent .room) (roomOf inStructs (lent .room))
-    unfolding structsIn
+    unfolding legsRead
     room-written legs′ e = go (outcome even-bytes c)
       where
         counted : {x : Assembly} → r ≡ x → legs′ ≡ sets legs 0 (structsIn bytes (x .legs) 0)
@@ -184,7 +157,7 @@ module _ (book run : List ℕ) (l : AllLent Leg) (h : Each (λ x. x < 256) book)
 module _ {book run : List ℕ} {read : Lent} {plan : List ℕ} {w : Whole} {read′ : Lent} {plan′ : List ℕ} where
   pub legs-told : (legs legs′ : List Leg) (r : Assembly) → WholeAs book run read plan (length legs) w read′ plan′
       → legs′ ≡ sets legs 0 (structsIn (w .bytes) (w .count) 0) → r ≡ w .result → AssembleAs inStructs book run (allLent read plan legs) r (allLent read′ plan′ legs′)
-  unfolding structsIn
+  unfolding legsRead
   legs-told legs legs′ r a e f = go (decLt (length legs) 32)
     where
       legs-are : legs′ ≡ sets legs 0 (structsIn (w .bytes) (w .result .legs) 0)

@@ -1,24 +1,25 @@
 -- Assembling with the legs as bytes in a value, and the structs made of them. Assumes nothing: these are definitions.
 use mathlib.Core.Path.{_≡_}
-use mathlib.Core.List.{List, [], _∷_}
-use Prim.Native.Nat.{ℕ, zero, suc, _+_, _*_, _≤_, _<_}
-use lib.ListN.{getD, replicate}
+use mathlib.Core.List.{List, map}
+use Prim.Native.Nat.{ℕ, _≤_, _<_}
+use lib.ListN.{replicate}
 use Rattle.base.specs.Lists.{Each}
 use Rattle.book.specs.Lent.{Lent}
 use Rattle.assembly.specs.Lent.{inBytes, allLent}
+use Rattle.assembly.specs.LegsRead.{legRead, legsRead}
 use Rattle.assembly.specs.Assembles.{refusal}
 use Rattle.assembly.specs.Contract.{AssembleAs}
 use Rattle.planner.specs.declared.Leg.{Leg}
 use Rattle.planner.specs.declared.Whole.{Whole}
+use Rattle.planner.specs.Structs.{structOf}
 
--- the leg of the three bytes from 3 × i on
+-- the struct of the three bytes from 3 × i on
 abbrev pub legAt : List ℕ → ℕ → Leg
-legAt s i = record { item = getD s (3 * i) 0; upper = getD s (3 * i + 1) 0; lower = getD s (3 * i + 2) 0 }
+legAt s i = structOf (legRead s i)
 
--- k legs, from number i on
-unfoldable pub structsIn : List ℕ → ℕ → ℕ → List Leg
-structsIn s zero i = []
-structsIn s (suc k) i = legAt s i ∷ structsIn s k (i + 1)
+-- k structs, from number i on
+abbrev pub structsIn : List ℕ → ℕ → ℕ → List Leg
+structsIn s k i = map structOf (legsRead s k i)
 
 -- the bytes that are lent to assembling
 abbrev pub zeros : List ℕ

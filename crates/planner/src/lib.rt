@@ -2,6 +2,7 @@
 // on to.
 use assembly::Assembly;
 use lookups::LookupResult;
+use paper::Paged;
 use reader::Reading;
 use writer::Writing;
 ghost use mathlib.Core.Path.{_≡_};
@@ -14,6 +15,7 @@ ghost use Rattle.checker.specs.Contract.{CheckAs};
 ghost use Rattle.writer.specs.Contract.{WriteAs};
 ghost use Rattle.assembly.specs.Contract.{AssembleAs};
 ghost use Rattle.assembly.specs.Lent.{inBytes, allLent};
+ghost use Rattle.paper.specs.Contract.{PageAs};
 ghost use Rattle.planner.specs.Structs.{inStructs};
 ghost use Rattle.planner.specs.Whole.{legAt, structsIn, WholeAs};
 ghost use Rattle.ridge.specs.Computed.{ridgeLookup};
@@ -49,6 +51,23 @@ pub extern "C" fn rollback_assemble(
         (allLent (lent (now (table .exit)) (now (slots .exit))) (now (plan .exit)) (now (legs .exit))) ⌝ }
 {
     assembly::assemble(book, run, table, slots, plan, legs)
+}
+
+#[no_mangle]
+pub extern "C" fn rollback_page(
+    book: &[u8],
+    run: &[u8],
+    table: &mut [u64],
+    slots: &mut [u8],
+    plan: &mut [u8],
+    legs: &mut [u8],
+    page: &mut [u8],
+) -> Paged
+    ensures { λ r. ⌜ PageAs (now (book .entry)) (now (run .entry))
+        (allLent (lent (now (table .entry)) (now (slots .entry))) (now (plan .entry)) (now (legs .entry))) (now (page .entry)) r
+        (allLent (lent (now (table .exit)) (now (slots .exit))) (now (plan .exit)) (now (legs .exit))) (now (page .exit)) ⌝ }
+{
+    paper::lay_out(book, run, table, slots, plan, legs, page)
 }
 
 #[no_mangle]

@@ -5,15 +5,15 @@ use Prim.Native.Nat.{ℕ, zero, suc, _+_, _-_, _%_, _^_, _≤_, _<_, min}
 use native.Mathlib.Nat.{zero-add, sub-zero, suc-min-suc}
 use native.Mathlib.Numerals.{add-one}
 use native.Mathlib.Omega.{arith}
-use lib.ListN.{length, getD, take, length-append, length-take}
+use lib.ListN.{length, getD, take, replicate, length-append, length-take, length-replicate}
 use lib.Seq.{sets, take-all, take-nil, take-take}
 use Rattle.base.proofs.Picks.{same-yes, same-no}
 use Rattle.octets.specs.Le.{bytesLe}
 use Rattle.octets.specs.Parts.{piece}
-use Rattle.octets.proofs.Put.{sets-append, piece-take}
+use Rattle.octets.proofs.Put.{sets-past, sets-append, piece-take}
 use Rattle.io.specs.Counts.{Counts}
 use Rattle.io.specs.Digits.{digits, Fewest}
-use Rattle.show.specs.Show.{newline, space, decimal, field, line, linesOf, planned}
+use Rattle.show.specs.Show.{newline, space, decimal, rightAligned, field, line, linesOf, planned}
 use Rattle.show.specs.Written.{Written}
 use Rattle.show.proofs.Decimal.{decimal-is}
 
@@ -31,13 +31,53 @@ one-put : (old : List ℕ) (at b : ℕ) (new : List ℕ) → b < 256 → new ≡
 unfolding bytesLe
 one-put old at b new h e = let m : b % 256 ≡ b = omega arith in record { row = rw m at e; end = refl }
 
--- the digits that `io::decimal` made, copied, and one byte
-pub field-put : (old mid new text : List ℕ) (at k n b : ℕ) → Counts k text → Fewest 10 1 n k → take k text ≡ digits 10 k n → n < 2 ^ 64 → b < 256
-    → mid ≡ sets old at (piece k (take k text) 0) → new ≡ sets mid (at + k) (bytesLe 1 b) → Written old at (field n b) new (at + k + 1)
-field-put old mid new text at k n b c f d h l e g =
-    let t : take k text ≡ decimal n = d ∙ decimal-is k n f h in
-    let p : piece k (take k text) 0 ≡ decimal n = piece-take k (take k text) 0 (omega arith) ∙ take-all k (take k text) (omega arith) ∙ t in
-    let w : Written old at (decimal n) mid (at + k) = record { row = rw p at e; end = ap (λ (x : ℕ). at + x) (c .1 ∙ ap length t) } in
+-- ---- a number: spaces, and the digits that `io::decimal` made, copied behind them
+module _ (text : List ℕ) (k n : ℕ) (c : Counts k text) (f : Fewest 10 1 n k) (d : take k text ≡ digits 10 k n) (h : n < 2 ^ 64) where
+  made : take k text ≡ decimal n
+  made = d ∙ decimal-is k n f h
+
+  made-long : k ≡ length (decimal n)
+  made-long = c .1 ∙ ap length made
+
+  module _ (w pad : ℕ) (e : pad ≡ w - k) where
+    spaces-are : replicate {A = ℕ} pad space ≡ replicate (w - length (decimal n)) space
+    spaces-are = ap (λ (x : ℕ). replicate x space) (e ∙ ap (λ (x : ℕ). w - x) made-long)
+
+    pub right-long : pad + k ≡ length (rightAligned w n)
+    unfolding rightAligned
+    right-long =
+        omega (
+          arith,
+          made-long,
+          length-append (replicate (w - length (decimal n)) space) (decimal n),
+          length-replicate {A = ℕ} (w - length (decimal n)) space,
+        )
+
+    module _ (old : List ℕ) (at : ℕ) (mid : List ℕ) (q : mid ≡ sets old at (replicate pad space)) where
+      -- what is put behind the spaces puts the whole
+      behind : (new : List ℕ) → new ≡ sets mid (at + pad) (decimal n) → new ≡ sets old at (rightAligned w n)
+      unfolding rightAligned
+      behind new g =
+          g ∙ ap (λ (l : List ℕ). sets l (at + pad) (decimal n)) q
+          ∙ sets-append old at (at + pad) (replicate pad space) (decimal n) (omega (arith, length-replicate {A = ℕ} pad space))
+          ∙ ap (λ (l : List ℕ). sets old at (l ++ decimal n)) spaces-are
+
+      pub right-put : (new : List ℕ) → new ≡ sets mid (at + pad) (piece k (take k text) 0) → new ≡ sets old at (rightAligned w n)
+      right-put new g =
+          let p : piece k (take k text) 0 ≡ decimal n = piece-take k (take k text) 0 (omega arith) ∙ take-all k (take k text) (omega arith) ∙ made in
+          behind new (rw p at g)
+
+      -- past the end there is nothing to put
+      pub right-past : length mid ≤ at + pad → mid ≡ sets old at (rightAligned w n)
+      right-past l = behind mid (sym (sets-past mid (at + pad) (decimal n) l))
+
+-- a number, and one byte
+pub field-put : (old mid new : List ℕ) (at k n b : ℕ) → b < 256 → mid ≡ sets old at (rightAligned 0 n) → k ≡ length (rightAligned 0 n)
+    → new ≡ sets mid (at + k) (bytesLe 1 b) → Written old at (field n b) new (at + k + 1)
+unfolding rightAligned
+field-put old mid new at k n b l e c g =
+    let none : 0 - length (decimal n) ≡ 0 = omega arith in
+    let w : Written old at (decimal n) mid (at + k) = record { row = rw none at e; end = ap (λ (x : ℕ). at + x) (rw none at c) } in
     then w (one-put mid (at + k) b new l g)
 
 -- ---- the commands of a plan

@@ -1,7 +1,7 @@
--- The text that the program `rollback` prints (01, "Small device Q"), as ASCII codes, for the reader. Assumes nothing: these are definitions.
+-- Numbers as text, and the text that the program `rollback` prints (01, "Small device Q"), as ASCII codes, for the reader. Assumes nothing: these are definitions.
 use mathlib.Core.List.{List, [], _∷_, _++_}
-use Prim.Native.Nat.{ℕ, zero, suc, _+_, _/_, _%_}
-use lib.ListN.{take}
+use Prim.Native.Nat.{ℕ, zero, suc, _+_, _-_, _/_, _%_}
+use lib.ListN.{length, take, replicate}
 use Rattle.base.specs.Tests.{pick}
 use Rattle.base.specs.Compare.{less, same}
 
@@ -23,6 +23,10 @@ decimalIn (suc f) n = pick (less n 10) (digit n ∷ []) (decimalIn f (n / 10) ++
 -- a number of 64 bits has at most 20 digits
 unfoldable pub decimal : ℕ → List ℕ
 decimal n = decimalIn 20 n
+
+-- 02: "Right-aligned, padded with spaces": n in decimal at the end of w characters, or of more where it has more digits
+unfoldable pub rightAligned : ℕ → ℕ → List ℕ
+rightAligned w n = replicate (w - length (decimal n)) space ++ decimal n
 
 -- a number and the byte after it
 abbrev pub field : ℕ → ℕ → List ℕ

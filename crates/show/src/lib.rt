@@ -1,12 +1,37 @@
-// The text that the program prints, written into a lent row. What does not fit in the row is not stored, and is counted all the same.
+// Numbers as text, and the text that the program prints, written into a lent row. What does not fit in the row is not stored, and is counted all the same.
 ghost use mathlib.Core.Path.{_≡_};
 ghost use mathlib.Core.List.{[], _∷_};
-ghost use Prim.Native.Nat.{_+_, _*_, _^_, _<_, _≤_, min};
+ghost use Prim.Native.Nat.{_+_, _-_, _*_, _^_, _<_, _≤_, min};
 ghost use lib.ListN.{length};
 ghost use lib.Seq.{sets};
 ghost use Rattle.octets.specs.Parts.{piece};
-ghost use Rattle.show.specs.Show.{field, line, linesOf, planned};
+ghost use Rattle.show.specs.Show.{rightAligned, field, line, linesOf, planned};
 ghost use Rattle.show.specs.Written.{Written};
+
+// The number of spaces before k digits in `width` characters.
+fn padding(width: usize, k: usize) -> usize
+    ensures { λ r. ⌜ r ≡ width - k ⌝ }
+{
+    if k < width { width - k } else { 0 }
+}
+
+// A number in decimal, from `at` on, with spaces before it up to `width` characters. The answer is how many characters these are: `width`, or more
+// where there are more digits.
+pub fn put_right(out: &mut [u8], at: usize, width: usize, n: u64) -> usize
+    ensures { λ _. ⌜ now (out .exit) ≡ sets (now (out .entry)) at (rightAligned width n) ⌝ }
+    ensures { λ r. ⌜ r ≡ length (rightAligned width n) ⌝ }
+    ensures { λ r. ⌜ r ≤ width + 20 ⌝ }
+{
+    let mut text = [0u8; 20];
+    let k = io::decimal(n, &mut text);
+    let pad = padding(width, k);
+    octets::fill(pad, b' ', out, at);
+    if !octets::has_room(out.len(), at, pad) {
+        return pad + k;
+    }
+    octets::copy(k, &text[..k], 0, out, at + pad);
+    pad + k
+}
 
 // A number in decimal and a byte after it, from `at` on. The answer is the place after them.
 fn put_field(out: &mut [u8], at: usize, n: u64, after: u8) -> usize
@@ -14,9 +39,7 @@ fn put_field(out: &mut [u8], at: usize, n: u64, after: u8) -> usize
     ensures { λ r. ⌜ Written (now (out .entry)) at (field n after) (now (out .exit)) r ⌝ }
     ensures { λ r. ⌜ r ≤ at + 21 ⌝ }
 {
-    let mut text = [0u8; 20];
-    let k = io::decimal(n, &mut text);
-    octets::copy(k, &text[..k], 0, out, at);
+    let k = put_right(out, at, 0, n);
     octets::put_le(1, after as u64, out, at + k);
     at + k + 1
 }

@@ -33,6 +33,12 @@ module _ (s : List ℕ) (a : ℕ) where
       let k = getD s (34 * a) 0 in
       e ∙ sym (piece-get k s (34 * a + 2) x (omega (arith, length-piece k s (34 * a + 2))))
 
+  pub reverse-is : (x r : ℕ) → r ≡ getD s (34 * a + 10 + x) 0 → x < length (itemAt s a .reverse) → r ≡ getD (itemAt s a .reverse) x 0
+  unfolding itemAt
+  reverse-is x r e h =
+      let k = getD s (34 * a + 1) 0 in
+      e ∙ sym (piece-get k s (34 * a + 10) x (omega (arith, length-piece k s (34 * a + 10))))
+
   module _ (d d′ : List ℕ) (at count : ℕ) where
     pub forward-put : d′ ≡ sets d at (piece count s (34 * a + 2)) → count ≡ length (itemAt s a .forward) → d′ ≡ sets d at (itemAt s a .forward)
     unfolding itemAt

@@ -31,6 +31,13 @@ pub fn forward(slots: &[u8], a: u8, x: u8) -> u64
     octets::byte_at(slots, SLOT_LEN * a as usize + 2 + x as usize)
 }
 
+// Its reverse command x, where it has one.
+pub fn reverse(slots: &[u8], a: u8, x: u8) -> u64
+    ensures { λ r. ⌜ (x < length (itemAt (now (slots .entry)) a .reverse) → r ≡ getD (itemAt (now (slots .entry)) a .reverse) x 0) × (r < 256) ⌝ }
+{
+    octets::byte_at(slots, SLOT_LEN * a as usize + 10 + x as usize)
+}
+
 pub fn phi(slots: &[u8], a: u8) -> u64
     ensures { λ r. ⌜ r ≡ itemAt (now (slots .entry)) a .phi ⌝ }
 {

@@ -1,8 +1,9 @@
-// What the test programs that run vector files share: a part of a file, and rows of numbers on standard output.
+// What the test programs that run vector files share: parts of a file, and rows of numbers on standard output.
 use libc::STDOUT_FILENO;
 ghost use mathlib.Core.Path.{_≡_};
 ghost use Prim.Native.Nat.{_≤_, min};
 ghost use lib.ListN.{length, take, drop};
+ghost use Rattle.io.specs.Counts.{Counts};
 
 fn least(a: usize, b: usize) -> usize
     ensures { λ r. ⌜ r ≡ min a b ⌝ }
@@ -17,6 +18,15 @@ pub fn part(s: &[u8], at: usize, len: usize) -> &[u8]
     let from = least(at, s.len());
     let to = from + least(len, s.len() - from);
     &s[from..to]
+}
+
+// The file's next bytes, as many as asked for or as there is room. The answer is their number.
+pub fn read_part(file: i32, size: u16, buf: &mut [u8]) -> usize
+    ensures { λ r. ⌜ Counts r (now (buf .exit)) ⌝ }
+{
+    let wanted = io::count(size as isize, buf);
+    let got = io::read_full(file, &mut buf[..wanted]);
+    io::count(got as isize, buf)
 }
 
 // Prints n after a space, or at the beginning of a row.

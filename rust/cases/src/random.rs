@@ -25,6 +25,8 @@ pub struct Input {
     pub legs: Vec<u8>,
     /// The legs where they are structs: item, upper, lower.
     pub leg_structs: Vec<[u8; 3]>,
+    /// For the page besides.
+    pub page: Vec<u8>,
 
     /// For writing.
     pub n: u64,
@@ -98,12 +100,13 @@ pub fn input(seed: u64) -> Input {
     }
     let book = book.unwrap_or_else(|| records.concat());
 
-    let short = if rng.chance(7) { rng.within(1, 4) } else { 0 };
+    let short = if rng.chance(8) { rng.within(1, 5) } else { 0 };
     let table = lent_length(rng, 2048, short == 1);
     let slots = lent_length(rng, 2176, short == 2);
     let plan = lent_length(rng, 256, short == 3);
     let legs = lent_length(rng, 96, short == 4);
     let leg_structs = lent_length(rng, 32, short == 4);
+    let page = lent_length(rng, 1312, short == 5);
 
     let writing = Writing::new(rng, &device, &items);
     let ridge = looked_up(rng, 64, 16);
@@ -121,6 +124,7 @@ pub fn input(seed: u64) -> Input {
         leg_structs: (0..leg_structs)
             .map(|_| [filler.byte(), filler.byte(), filler.byte()])
             .collect(),
+        page: (0..page).map(|_| filler.byte()).collect(),
         n: writing.n,
         m: writing.m,
         items: writing.items,

@@ -66,6 +66,24 @@ pub struct WriteCase {
     pub out_after: Vec<u8>,
 }
 
+/// What is given to the page and what it must answer.
+#[derive(Clone, Debug)]
+pub struct PageCase {
+    pub book: Vec<u8>,
+    pub run: Vec<u8>,
+    /// What the lent buffers hold before the call.
+    pub table: Vec<u64>,
+    pub slots: Vec<u8>,
+    pub plan: Vec<u8>,
+    pub legs: Vec<u8>,
+    pub page: Vec<u8>,
+    /// Code, place, count of commands, count of legs, length.
+    pub head: [u64; 5],
+    pub fewest: [u16; 33],
+    /// The page's bytes 0 to length + 3 afterwards, as far as it has them.
+    pub page_after: Vec<u8>,
+}
+
 /// The constant tables of the devices.
 #[derive(Clone, Debug)]
 pub struct Masks {
@@ -178,6 +196,47 @@ pub fn write_cases() -> Vec<WriteCase> {
             place: head[1],
             length: head[2],
             out_after: numbers(lines.next()),
+        });
+    }
+    assert!(lines.next().is_none());
+    cases
+}
+
+/// Each case: a byte for the lengths of the lent buffers, two-byte lengths of book and run, the book,
+/// the run. Each answer: code, place, the two counts and the length; the 33 numbers; the page's lines
+/// as they are, one for each leg; the page's bytes length to length + 3.
+pub fn page_cases() -> Vec<PageCase> {
+    let mut bytes = Bytes(data!("page_vectors/data/pages.bin"));
+    let mut lines = answers!("page_vectors").lines();
+    let mut cases = Vec::new();
+    while !bytes.0.is_empty() {
+        let stated = [1312, 256, 96, 2048, 2176];
+        let [page, plan, legs, table, slots] = match bytes.number(1) {
+            0 => stated,
+            6 => stated.map(|length| length + 5),
+            short => std::array::from_fn(|at| stated[at] - usize::from(at + 1 == short)),
+        };
+        let (book, run) = (bytes.number(2), bytes.number(2));
+        let (book, run) = (bytes.take(book).to_vec(), bytes.take(run).to_vec());
+        let head: [u64; 5] = numbers(lines.next()).try_into().unwrap();
+        let fewest = numbers::<u16>(lines.next());
+        let mut page_after = Vec::new();
+        for _ in 0..head[3] {
+            page_after.extend(lines.next().unwrap().bytes());
+            page_after.push(b'\n');
+        }
+        page_after.extend(numbers::<u8>(lines.next()));
+        cases.push(PageCase {
+            book,
+            run,
+            table: (1..=table as u64).collect(),
+            slots: (0..slots).map(|byte| (byte % 251) as u8).collect(),
+            plan: vec![201; plan],
+            legs: vec![202; legs],
+            page: vec![90; page],
+            head,
+            fewest: fewest.try_into().unwrap(),
+            page_after,
         });
     }
     assert!(lines.next().is_none());

@@ -3,7 +3,9 @@
 //! lists would be too long is skipped.
 
 use rollback_cases::{input, Input};
-use rollback_plain::{assemble, assemble_legs, check, portable, read, ridge, write, Leg, Lookup};
+use rollback_plain::{
+    assemble, assemble_legs, check, page, portable, read, ridge, write, Assembly, Leg, Lookup,
+};
 use std::collections::BTreeSet;
 
 const SEEDS: u64 = 12_000;
@@ -315,12 +317,14 @@ struct Planned {
     fewest: [u16; 33],
     plan: Vec<u8>,
     legs: Vec<[u8; 3]>,
+    page: String,
 }
 
 const NOTHING: Planned = Planned {
     fewest: [65_535; 33],
     plan: vec![],
     legs: vec![],
+    page: String::new(),
 };
 
 /// The code, and what is found, if every item is accepted.
@@ -353,6 +357,10 @@ fn planned(book: &Book, run: &[u8], fuel: &mut Fuel) -> Option<(u64, Planned)> {
         let lower = upper - item.forward.len();
         answer.plan.extend(item.reverse.iter().map(|&c| c as u8));
         answer.legs.push([number as u8, upper as u8, lower as u8]);
+        let commands: String = item.reverse.iter().map(|c| format!("{c:3}")).collect();
+        let (leg, r) = (answer.legs.len(), item.reverse.len());
+        let line = format!("{leg:3}{upper:3}{lower:3}{number:4}{r:3}{commands}");
+        answer.page.push_str(&format!("{line:40}\n"));
         upper = lower;
     }
     Some((0, answer))
@@ -485,7 +493,7 @@ fn over<T: Clone>(before: &[T], start: &[T]) -> Vec<T> {
 fn books_and_runs() {
     let mut codes = [0; 13];
     let mut met = [0; PLACES.len()];
-    let (mut skipped, mut two_legs) = (0, 0);
+    let (mut skipped, mut two_legs, mut short_pages) = (0, 0, 0);
     for seed in 0..SEEDS {
         let input = input(seed);
         let Some(expected) = expected(&input) else {
@@ -532,12 +540,13 @@ fn books_and_runs() {
         let Planned {
             fewest,
             plan: expected_plan,
-            legs: expected_legs,
+            legs: leg_list,
+            page: expected_page,
         } = &expected.planned;
         let head = [found.code, found.place];
         assert_eq!(head, expected.assemble, "assembling, seed {seed}");
         let counts = [found.commands as usize, found.legs as usize];
-        let expected_counts = [expected_plan.len(), expected_legs.len()];
+        let expected_counts = [expected_plan.len(), leg_list.len()];
         assert_eq!(counts, expected_counts, "assembling, seed {seed}");
         assert_eq!(found.fewest, *fewest, "assembling, seed {seed}");
         assert!(
@@ -546,11 +555,8 @@ fn books_and_runs() {
         );
         let expected_plan = over(&input.plan, expected_plan);
         assert_eq!(plan, expected_plan, "plan, seed {seed}");
-        assert_eq!(
-            legs,
-            over(&input.legs, &expected_legs.concat()),
-            "legs, seed {seed}"
-        );
+        let expected_legs = over(&input.legs, &leg_list.concat());
+        assert_eq!(legs, expected_legs, "legs, seed {seed}");
 
         let (mut table, mut slots) = untouched.clone();
         let mut plan = input.plan.clone();
@@ -573,9 +579,53 @@ fn books_and_runs() {
         let bytes: Vec<[u8; 3]> = legs.iter().map(|l| [l.item, l.upper, l.lower]).collect();
         assert_eq!(
             bytes,
-            over(&input.leg_structs, expected_legs),
+            over(&input.leg_structs, leg_list),
             "leg structs, seed {seed}"
         );
+
+        // The page answers as assembling does, unless it is short itself.
+        let (mut table, mut slots) = untouched.clone();
+        let (mut plan, mut legs) = (input.plan.clone(), input.legs.clone());
+        let mut lines = input.page.clone();
+        let paged = page(
+            &input.book,
+            &input.run,
+            &mut table,
+            &mut slots,
+            &mut plan,
+            &mut legs,
+            &mut lines,
+        );
+        if input.page.len() < 1312 {
+            let refused = Assembly {
+                code: 1,
+                place: 0,
+                commands: 0,
+                legs: 0,
+                fewest: NOTHING.fewest,
+            };
+            assert_eq!(paged.assembly, refused, "short page, seed {seed}");
+            assert_eq!(paged.length, 0, "short page, seed {seed}");
+            let after = (table, slots, plan, legs, lines);
+            let before = (input.table, input.slots, input.plan, input.legs, input.page);
+            assert!(after == before, "short page, seed {seed}");
+            short_pages += 1;
+        } else {
+            assert_eq!(paged.assembly, found, "page, seed {seed}");
+            assert_eq!(
+                paged.length,
+                expected_page.len() as u64,
+                "page, seed {seed}"
+            );
+            assert!(
+                (&table, &slots) == (&left.0, &left.1),
+                "after the page, seed {seed}"
+            );
+            assert_eq!(plan, expected_plan, "page, seed {seed}");
+            assert_eq!(legs, expected_legs, "page, seed {seed}");
+            let expected_lines = over(&input.page, expected_page.as_bytes());
+            assert_eq!(lines, expected_lines, "page, seed {seed}");
+        }
 
         codes[found.code as usize] += 1;
         two_legs += usize::from(found.legs >= 2);
@@ -584,6 +634,7 @@ fn books_and_runs() {
         }
     }
     println!("{SEEDS} seeds, {skipped} skipped, codes {codes:?}, {two_legs} with two legs or more");
+    println!("{short_pages} short pages");
     for (place, count) in PLACES.iter().zip(met) {
         println!("{place}: {count}");
         assert!(count >= 50, "{place}: {count}");
@@ -591,6 +642,7 @@ fn books_and_runs() {
     assert!(skipped < SEEDS / 3, "{skipped} skipped");
     assert!(codes.iter().all(|&count| count >= 100), "{codes:?}");
     assert!(two_legs >= 800, "{two_legs}");
+    assert!(short_pages >= 100, "{short_pages}");
 }
 
 fn expected_writing(input: &Input) -> (u64, u64, Vec<u8>) {

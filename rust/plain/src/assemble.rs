@@ -17,9 +17,7 @@ pub fn assemble(
     legs: &mut [u8],
 ) -> Assembly {
     let lent = plan.len() >= PLAN && legs.len() >= 3 * RUN;
-    assemble_into(book, run, table, slots, plan, lent, |at, leg| {
-        legs[3 * at..3 * at + 3].copy_from_slice(&[leg.item, leg.upper, leg.lower]);
-    })
+    assemble_into(book, run, table, slots, plan, lent, as_bytes(legs))
 }
 
 /// The same, with legs as structs.
@@ -37,7 +35,14 @@ pub fn assemble_legs(
     })
 }
 
-fn assemble_into(
+/// Puts legs as bytes.
+pub(crate) fn as_bytes(legs: &mut [u8]) -> impl FnMut(usize, Leg) + '_ {
+    |at, leg| {
+        legs[3 * at..3 * at + 3].copy_from_slice(&[leg.item, leg.upper, leg.lower]);
+    }
+}
+
+pub(crate) fn assemble_into(
     book: &[u8],
     run: &[u8],
     table: &mut [u64],

@@ -8,6 +8,7 @@
 mod accept;
 mod assemble;
 mod lookup;
+mod page;
 mod portable;
 mod read;
 mod ridge;
@@ -17,6 +18,7 @@ mod slot;
 mod write;
 
 pub use assemble::{assemble, assemble_legs};
+pub use page::page;
 pub use portable::portable;
 pub use read::{check, read};
 pub use ridge::ridge;
@@ -55,6 +57,13 @@ pub struct Assembly {
     pub commands: u64,
     pub legs: u64,
     pub fewest: [u16; 33],
+}
+
+/// What the page answers: assembling's answer, and how many bytes it has.
+#[derive(Clone, Copy, Debug, PartialEq, Eq)]
+pub struct Paged {
+    pub assembly: Assembly,
+    pub length: u64,
 }
 
 /// What writing answers.

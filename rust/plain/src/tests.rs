@@ -1,5 +1,5 @@
 //! The marked twelve cases on the small device Q, items that can never be used,
-//! and facts of the two devices with a constant table.
+//! plans on paper, and facts of the two devices with a constant table.
 
 use super::*;
 
@@ -27,14 +27,17 @@ fn book(items: &[Item]) -> Vec<u8> {
         bytes.extend([10, 0, 2, 0, state, command]);
         bytes.extend(mask.to_le_bytes());
     }
-    for (forward, reverse, phi, psi) in items {
-        let (k, r) = (forward.len() as u8, reverse.len() as u8);
-        bytes.extend([18 + k + r, 0, 3, 0, k, r]);
-        bytes.extend(*forward);
-        bytes.extend(*reverse);
-        bytes.extend(phi.to_le_bytes());
-        bytes.extend(psi.to_le_bytes());
-    }
+    bytes.extend(items.iter().flat_map(item));
+    bytes
+}
+
+fn item((forward, reverse, phi, psi): &Item) -> Vec<u8> {
+    let (k, r) = (forward.len() as u8, reverse.len() as u8);
+    let mut bytes = vec![18 + k + r, 0, 3, 0, k, r];
+    bytes.extend(*forward);
+    bytes.extend(*reverse);
+    bytes.extend(phi.to_le_bytes());
+    bytes.extend(psi.to_le_bytes());
     bytes
 }
 
@@ -261,6 +264,152 @@ fn q11_empty_plan() {
 fn q12_zero_sighting() {
     let (result, ..) = assembled(&[], &[0]);
     assert_eq!((result.code, result.fewest), (10, [65535; 33]));
+}
+
+/// What the buffers hold, and what is lent.
+#[derive(Clone, PartialEq, Eq, Debug)]
+struct Lent {
+    table: Vec<u64>,
+    slots: Vec<u8>,
+    plan: Vec<u8>,
+    legs: Vec<u8>,
+    page: Vec<u8>,
+}
+
+impl Lent {
+    fn new([table, slots, plan, legs, page]: [usize; 5]) -> Lent {
+        Lent {
+            table: vec![75; table],
+            slots: vec![76; slots],
+            plan: vec![77; plan],
+            legs: vec![78; legs],
+            page: vec![79; page],
+        }
+    }
+
+    fn page(&mut self, book: &[u8], run: &[u8]) -> Paged {
+        page(
+            book,
+            run,
+            &mut self.table,
+            &mut self.slots,
+            &mut self.plan,
+            &mut self.legs,
+            &mut self.page,
+        )
+    }
+
+    fn assemble(&mut self, book: &[u8], run: &[u8]) -> Assembly {
+        let (table, slots) = (&mut self.table, &mut self.slots);
+        assemble(book, run, table, slots, &mut self.plan, &mut self.legs)
+    }
+}
+
+const STATED: [usize; 5] = [2048, 2176, 256, 96, 1312];
+
+/// The code and the page's text. All else must be assembling's, and what lies
+/// past the length must stay.
+fn paged_of(book: &[u8], run: &[u8]) -> (u64, String) {
+    let longer = STATED.map(|length| length + 5);
+    let (mut lent, mut expected) = (Lent::new(longer), Lent::new(longer));
+    let found = lent.page(book, run);
+    assert_eq!(found.assembly, expected.assemble(book, run));
+    let length = found.length as usize;
+    expected.page[..length].copy_from_slice(&lent.page[..length]);
+    assert_eq!(lent, expected);
+    assert_eq!(found.length, 41 * found.assembly.legs);
+
+    // "The commands, taken down the page, are the plan."
+    let text = String::from_utf8(lent.page[..length].to_vec()).unwrap();
+    let commands = text
+        .lines()
+        .flat_map(|line| line.split_whitespace().skip(5))
+        .map(|command| command.parse().unwrap());
+    let plan = &lent.plan[..found.assembly.commands as usize];
+    assert_eq!(commands.collect::<Vec<u8>>(), plan);
+    (found.assembly.code, text)
+}
+
+/// On Q.
+fn paged(commands: &[u8], sightings: &[u64]) -> (u64, String) {
+    paged_of(&book(&Q), &run(commands, sightings))
+}
+
+#[test]
+fn pages_of_q() {
+    let two =
+        "  1  2  1   3  0                        \n  2  1  0   1  1  0                     \n";
+    assert_eq!(paged(&[1, 1], &[1, 7, 7]), (0, two.into()));
+    let one = "  1  2  0   2  1  0                     \n";
+    assert_eq!(paged(&[2, 1], &[7, 7, 7]), (0, one.into()));
+    // No legs, no lines.
+    assert_eq!(paged(&[], &[7]), (0, String::new()));
+}
+
+/// A device of one state where commands 0 and 31 stay; 64 items, of which the
+/// last alone reverses command 31, by eight.
+#[test]
+fn a_full_page() {
+    let mut bytes = vec![2, 0, 1, 0, 1, 32];
+    for command in [0, 31] {
+        bytes.extend([10, 0, 2, 0, 0, command, 1, 0, 0, 0, 0, 0, 0, 0]);
+    }
+    for number in 0..63 {
+        let reverse = [0; 8];
+        bytes.extend(item(&(&[0], &reverse[..number % 9], 1, 1)));
+    }
+    bytes.extend(item(&(&[31], &[31; 8], 1, 1)));
+    let expected: String = (1..=32)
+        .map(|leg| {
+            let (upper, lower) = (33 - leg, 32 - leg);
+            format!("{leg:3}{upper:3}{lower:3}  63  8 31 31 31 31 31 31 31 31\n")
+        })
+        .collect();
+    assert_eq!(expected.len(), 1312);
+    assert_eq!(
+        expected[..41],
+        *"  1 32 31  63  8 31 31 31 31 31 31 31 31\n"
+    );
+    let sent = run(&[31; 32], &[1; 33]);
+    assert_eq!(paged_of(&bytes, &sent), (0, expected));
+}
+
+#[test]
+fn a_refusal_leaves_the_page() {
+    let wrong = |item| book(&[Q[0], item]);
+    let q = book(&Q);
+    let good = run(&[2, 1], &[7, 7, 7]);
+    let cases = [
+        (q[..103].to_vec(), good.clone(), 2),
+        (wrong(STUCK), good.clone(), 8),
+        (wrong(NO_TRAJECTORY), good, 12),
+        (q.clone(), vec![], 9),
+        (q.clone(), run(&[2, 2], &[7, 7, 7]), 10),
+        (q, run(&[1], &[7, 7]), 11),
+    ];
+    for (book, run, code) in cases {
+        assert_eq!(paged_of(&book, &run), (code, String::new()));
+    }
+}
+
+/// A short buffer goes before the book's faults and leaves all untouched.
+#[test]
+fn a_short_page_is_refused_first() {
+    let good = run(&[2, 1], &[7, 7, 7]);
+    for book in [book(&Q), book(&[STUCK]), vec![]] {
+        for which in 0..5 {
+            for short in [0, 1, STATED[which] - 1] {
+                let mut lengths = STATED;
+                lengths[which] = short;
+                let mut lent = Lent::new(lengths);
+                let found = lent.page(&book, &good);
+                assert_eq!((found.assembly.code, found.assembly.place), (1, 0));
+                assert_eq!((found.assembly.commands, found.assembly.legs), (0, 0));
+                assert_eq!((found.assembly.fewest, found.length), (fewest(&[]), 0));
+                assert_eq!(lent, Lent::new(lengths));
+            }
+        }
+    }
 }
 
 #[test]

@@ -1,7 +1,9 @@
 //! Every case that a second program has answered.
 
-use rollback_cases::{assemble_cases, book_cases, masks, write_cases};
-use rollback_plain::{assemble, assemble_legs, check, portable, read, ridge, write, Leg, Lookup};
+use rollback_cases::{assemble_cases, book_cases, masks, page_cases, write_cases};
+use rollback_plain::{
+    assemble, assemble_legs, check, page, portable, read, ridge, write, Leg, Lookup,
+};
 
 fn finds(lookup: fn(u64, u64) -> Lookup, commands: u64, masks: &[u64]) {
     for (entry, &mask) in (0..).zip(masks) {
@@ -145,5 +147,45 @@ fn plans_are_assembled() {
             .flat_map(|l| [l.item, l.upper, l.lower])
             .collect();
         assert_eq!(bytes, expected_legs, "case {number}");
+    }
+}
+
+#[test]
+fn plans_are_laid_out() {
+    let cases = page_cases();
+    assert_eq!(cases.len(), 700);
+    for (number, case) in cases.iter().enumerate() {
+        let (mut table, mut slots) = (case.table.clone(), case.slots.clone());
+        let (mut plan, mut legs) = (case.plan.clone(), case.legs.clone());
+        let mut paper = case.page.clone();
+        let found = page(
+            &case.book, &case.run, &mut table, &mut slots, &mut plan, &mut legs, &mut paper,
+        );
+        let a = found.assembly;
+        let head = [a.code, a.place, a.commands, a.legs, found.length];
+        assert_eq!(head, case.head, "case {number}");
+        assert_eq!(a.fewest, case.fewest, "case {number}");
+        let (start, rest) = paper.split_at(case.page_after.len());
+        assert_eq!(start, case.page_after, "page, case {number}");
+        assert!(rest.iter().all(|&byte| byte == 90), "page, case {number}");
+
+        // The rest is assembling's, where the page is long enough.
+        let (mut table_after, mut slots_after) = (case.table.clone(), case.slots.clone());
+        let (mut plan_after, mut legs_after) = (case.plan.clone(), case.legs.clone());
+        if case.page.len() >= 1312 {
+            let again = assemble(
+                &case.book,
+                &case.run,
+                &mut table_after,
+                &mut slots_after,
+                &mut plan_after,
+                &mut legs_after,
+            );
+            assert_eq!(a, again, "case {number}");
+        }
+        assert!(
+            (table, slots, plan, legs) == (table_after, slots_after, plan_after, legs_after),
+            "case {number}"
+        );
     }
 }

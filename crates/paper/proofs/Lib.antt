@@ -1,0 +1,10 @@
+pub mod Decimals
+pub mod Columns
+pub mod ReadBack
+pub mod Puts
+pub mod Ways
+pub mod Legs
+pub mod Exactly
+pub mod TakenDown
+pub mod Unique
+pub mod Cases

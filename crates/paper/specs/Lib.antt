@@ -1,0 +1,5 @@
+pub mod Layout
+pub mod Taken
+pub mod Pages
+pub mod Contract
+pub mod Cases

@@ -1,6 +1,6 @@
 -- The loops over starts and commands: each way through the code, of whatever item stands at a place of the bytes. Assumes nothing.
 use mathlib.Core.Path.{_≡_, refl, sym, ap, ap₂, _∙_}
-use mathlib.Core.Bool.{Bool, true, false}
+use mathlib.Core.Bool.{Bool, true, false, not}
 use mathlib.Core.List.{List, [], _∷_, _++_}
 use Prim.Native.Nat.{ℕ, _+_, _-_, _^_, _≤_, _<_}
 use native.Mathlib.Numerals.{add-one}
@@ -11,10 +11,9 @@ use lib.Dec.{eqb}
 use lib.ListN.{length, getD, take, drop}
 use lib.Seq.{take-suc, take-all}
 use Rattle.base.specs.Tests.{pick, both, imp}
-use Rattle.base.specs.Bounded.{all, any}
-use Rattle.base.specs.Masks.{member, added}
-use Rattle.base.proofs.Tests.{imp-true, both-false}
-use Rattle.base.proofs.Bounded.{all-next, all-fails, any-next, any-hit}
+use Rattle.base.specs.Masks.{added, without, lowestIn}
+use Rattle.base.proofs.Tests.{pick-self, pick-either}
+use Rattle.base.proofs.Visiting.{gathered, Visiting, visit-next, visit-end, allSoFar, someSoFar, all-gathered, any-gathered, all-failed}
 use Rattle.reversal.specs.Device.{Device, tabled}
 use Rattle.reversal.specs.Reversal.{Item}
 use Rattle.reversal.specs.Computed.Sets.{after, reach, runsBack, ends, startOk, reverses, startUsed, effective}
@@ -29,9 +28,9 @@ unfolding reach
 reach-append d w [] c = refl
 reach-append d w (x ∷ cs) c = reach-append d (after d x w) cs c
 
--- the start passes, where it is in psi
-abbrev pub passes : Device → Item → ℕ → Bool
-passes d x S = imp (member (x .psi) S) (startOk d x S)
+-- the start has an end in phi
+abbrev hasEnd : Device → Item → ℕ → Bool
+hasEnd d x S = not (eqb (ends d (x .forward) (x .phi) S) 0)
 
 -- ---- what is read of an item is p
 module _ (n m : ℕ) (table s : List ℕ) (p : Place) where
@@ -47,10 +46,11 @@ module _ (n m : ℕ) (table s : List ℕ) (p : Place) where
   abbrev pub Ended : ℕ → ℕ → Type 0
   Ended S w = (x : Item) → Fields s p x → w ≡ ends d (x .forward) (x .phi) S
 
-  -- the starts below S pass, and whether some of them is used
-  pub record Passed (S : ℕ) (used : Bool) : Type 0 where
-    pub all-pass : (x : Item) → Fields s p x → all (passes d x) S ≡ true
-    pub some-used : (x : Item) → Fields s p x → any (startUsed d x) S ≡ used
+  -- `start` is the lowest of the rest; the starts before it pass, and whether some of them is used: with the rest they give the judgement
+  pub record Passed (rest start : ℕ) (used : Bool) : Type 0 where
+    pub next : start ≡ lowestIn rest
+    pub all-pass : (x : Item) → Fields s p x → gathered (allSoFar (startOk d x)) n true rest ≡ reverses d x
+    pub some-used : (x : Item) → Fields s p x → gathered (someSoFar (hasEnd d x)) n used rest ≡ effective d x
 
   -- ---- forward commands
 
@@ -85,52 +85,73 @@ module _ (n m : ℕ) (table s : List ℕ) (p : Place) where
       ∙ ap₂ bitAnd (ap (λ (y : StateSet). y .mask) (e x f) ∙ ap (reach d (2 ^ S)) (take-all j (x .forward) l′)) (f .phi-is)
 
   -- ---- starts
-  pub none-passed : Passed 0 false
-  unfolding all any
-  none-passed = record { all-pass = λ x f. refl; some-used = λ x f. refl }
-
-  -- a start that passes and is not used
-  passing : {S : ℕ} {used : Bool} → Passed S used → ((x : Item) → Fields s p x → (passes d x S ≡ true) × (startUsed d x S ≡ false)) → Passed (S + 1) used
-  passing {S} e h =
+  pub none-passed : (psi start : ℕ) → psi ≡ p .psi → start ≡ lowestIn psi → Passed psi start false
+  unfolding reverses effective startUsed
+  none-passed psi start e l =
       record {
-        all-pass = λ x f. all-next (passes d x) S (e .all-pass x f) (h x f .0);
-        some-used = λ x f. any-next (startUsed d x) S (h x f .1) ∙ e .some-used x f;
+        next = l;
+        all-pass = λ x f. ap (gathered (allSoFar (startOk d x)) n true) (e ∙ f .psi-is) ∙ all-gathered (startOk d x) n (x .psi);
+        some-used = λ x f. ap (gathered (someSoFar (hasEnd d x)) n false) (e ∙ f .psi-is) ∙ any-gathered (hasEnd d x) n (x .psi);
       }
 
-  pub start-out : {S : ℕ} {used : Bool} → Passed S used → member (p .psi) S ≡ false → Passed (S + 1) used
-  unfolding imp both startUsed
-  start-out e h = passing e (λ x f. (rw (← f .psi-is, h), rw (← f .psi-is, h)))
+  module _ (rest start : ℕ) {used : Bool} (passed : Passed rest start used) where
+    module _ (x : Item) (q : Fields s p x) where
+      all-visiting : Visiting (allSoFar (startOk d x)) n (reverses d x) true rest start
+      all-visiting = record { lowest = passed .next; gives = passed .all-pass x q }
 
-  module _ (S w : ℕ) (all-ends : Ended S w) where
-    pub start-none : {used : Bool} → Passed S used → eqb w 0 ≡ true → Passed (S + 1) used
-    unfolding startOk imp startUsed
-    start-none e h =
-        passing e (λ x f. (rw (← all-ends x f, h) (imp-true (member (x .psi) S)), rw (← all-ends x f, h) (both-false (member (x .psi) S))))
+      some-visiting : Visiting (someSoFar (hasEnd d x)) n (effective d x) used rest start
+      some-visiting = record { lowest = passed .next; gives = passed .some-used x q }
 
-    -- the part of the bytes that is lent to `runs_back`
-    abbrev reverse : List ℕ
-    reverse = take (p .reverse + p .r - p .reverse) (drop (p .reverse) s)
+    -- all starts
+    pub starts-done : n ≤ start → (x : Item) → Fields s p x → (reverses d x ≡ true) × (effective d x ≡ used)
+    starts-done l x q = (
+      sym (visit-end (allSoFar (startOk d x)) n (reverses d x) true rest start (all-visiting x q) l),
+      sym (visit-end (someSoFar (hasEnd d x)) n (effective d x) used rest start (some-visiting x q) l),
+    )
 
-    reverse-is : (x : Item) → Fields s p x → reverse ≡ x .reverse
-    reverse-is x f = let e : p .reverse + p .r - p .reverse ≡ p .r = omega arith in rw e (f .reverse-is)
-
-    module _ (h : member (p .psi) S ≡ true) (z : eqb w 0 ≡ false) where
-      pub start-back : {used : Bool} → Passed S used → runsBack d w reverse S ≡ true → Passed (S + 1) true
-      unfolding startOk imp both startUsed
-      start-back e g =
+    module _ (hn : n ≤ 64) where
+      -- one start more, which passes, and is used or not
+      one-passed : (rest′ start′ : ℕ) → start < n → rest′ ≡ without rest start → start′ ≡ lowestIn rest′ → (used′ : Bool)
+          → ((x : Item) → Fields s p x → (startOk d x start ≡ true) × (someSoFar (hasEnd d x) used start ≡ used′)) → Passed rest′ start′ used′
+      unfolding both
+      one-passed rest′ start′ l e f used′ g =
           record {
-            all-pass = λ x f. all-next (passes d x) S (e .all-pass x f) (rw (← f .psi-is, h, ← all-ends x f, z, ← reverse-is x f, g));
-            some-used = λ x f. any-hit (startUsed d x) S (rw (← f .psi-is, h, ← all-ends x f, z));
+            next = f;
+            all-pass =
+                λ x q.
+                ap (λ (b : Bool). gathered (allSoFar (startOk d x)) n b rest′) (sym (g x q .0))
+                ∙ visit-next (allSoFar (startOk d x)) n (reverses d x) true rest start (all-visiting x q) hn rest′ start′ l e f .gives;
+            some-used =
+                λ x q.
+                ap (λ (b : Bool). gathered (someSoFar (hasEnd d x)) n b rest′) (sym (g x q .1))
+                ∙ visit-next (someSoFar (hasEnd d x)) n (effective d x) used rest start (some-visiting x q) hn rest′ start′ l e f .gives;
           }
 
-      pub start-fails : S < n → runsBack d w reverse S ≡ false → (x : Item) → Fields s p x → reverses d x ≡ false
-      unfolding reverses startOk imp
-      start-fails l g x f = all-fails (passes d x) n S l (rw (← f .psi-is, h, ← all-ends x f, z, ← reverse-is x f, g))
+      module _ (w : ℕ) (all-ends : Ended start w) where
+        -- the part of the bytes that is lent to `runs_back`
+        abbrev reverse : List ℕ
+        reverse = take (p .reverse + p .r - p .reverse) (drop (p .reverse) s)
 
-  -- all starts
-  pub starts-done : {S : ℕ} {used : Bool} → S ≡ n → Passed S used → (x : Item) → Fields s p x → (reverses d x ≡ true) × (effective d x ≡ used)
-  unfolding reverses effective
-  starts-done e h x f = (
-    ap (λ (k : ℕ). all (passes d x) k) (sym e) ∙ h .all-pass x f,
-    ap (λ (k : ℕ). any (startUsed d x) k) (sym e) ∙ h .some-used x f,
-  )
+        reverse-is : (x : Item) → Fields s p x → reverse ≡ x .reverse
+        reverse-is x f = let e : p .reverse + p .r - p .reverse ≡ p .r = omega arith in rw e (f .reverse-is)
+
+        module _ (l : start < n) where
+          pub start-none : (rest′ start′ : ℕ) → rest′ ≡ without rest start → start′ ≡ lowestIn rest′ → eqb w 0 ≡ true → Passed rest′ start′ used
+          unfolding startOk imp
+          start-none rest′ start′ e f z =
+              one-passed rest′ start′ l e f used (λ x q. (rw (← all-ends x q, z), rw (← all-ends x q, z) (pick-self used)))
+
+          pub start-back : (rest′ start′ : ℕ) → rest′ ≡ without rest start → start′ ≡ lowestIn rest′ → eqb w 0 ≡ false
+              → runsBack d w reverse start ≡ true → Passed rest′ start′ true
+          unfolding startOk imp
+          start-back rest′ start′ e f z g =
+              one-passed rest′ start′ l e f true (λ x q. (rw (← all-ends x q, z, ← reverse-is x q, g), rw (← all-ends x q, z) (pick-either used true)))
+
+          pub start-fails : eqb w 0 ≡ false → runsBack d w reverse start ≡ false → (x : Item) → Fields s p x → reverses d x ≡ false
+          unfolding startOk imp both
+          start-fails z g x q =
+              let rest′ = without rest start in
+              let fails : startOk d x start ≡ false = rw (← all-ends x q, z, ← reverse-is x q, g) in
+              sym (visit-next (allSoFar (startOk d x)) n (reverses d x) true rest start (all-visiting x q) hn rest′ (lowestIn rest′) l refl refl .gives)
+              ∙ ap (λ (b : Bool). gathered (allSoFar (startOk d x)) n b rest′) fails
+              ∙ all-failed (startOk d x) n rest′

@@ -55,22 +55,24 @@ fn first_wrong(book: &[u8], table: &[u64], n: u64, m: u64) -> Judgement
         let forward = item.forward;
         let reverse = item.reverse;
         let mut used = false;
-        for start in 0..n {
-            if StateSet::of(item.psi).has(start) {
-                let mut set = StateSet::of(0).add(start);
-                for j in 0..item.k {
-                    let command = octets::byte_at(&book[forward..forward + item.k], j);
-                    set = set.after(table, n, m, command);
-                }
-                set = set.within(item.phi);
-                if !set.is_empty() {
-                    used = true;
-                    if !runs_back(set, table, n, m, &book[reverse..reverse + item.r], start) {
-                        found = Judgement::Wrong(at as u64, Reason::NoReversePlan);
-                        break 'items;
-                    }
+        let mut starts = StateSet::of(item.psi);
+        let mut start = starts.lowest();
+        while start < n {
+            let mut set = StateSet::of(0).add(start);
+            for j in 0..item.k {
+                let command = octets::byte_at(&book[forward..forward + item.k], j);
+                set = set.after(table, n, m, command);
+            }
+            set = set.within(item.phi);
+            if !set.is_empty() {
+                used = true;
+                if !runs_back(set, table, n, m, &book[reverse..reverse + item.r], start) {
+                    found = Judgement::Wrong(at as u64, Reason::NoReversePlan);
+                    break 'items;
                 }
             }
+            starts = starts.without(start);
+            start = starts.lowest();
         }
         if !used {
             found = Judgement::Wrong(at as u64, Reason::NotEffective);

@@ -1,6 +1,6 @@
 -- `first_wrong` meets its contract. Invariants: the items passed are accepted; the starts passed come back, and whether some of them was used, of
--- whatever item stands there; the set is that after the forward commands passed. Assumes nothing.
-use mathlib.Core.Path.{_≡_, refl, sym, ap, _∙_, subst⁻¹}
+-- whatever item stands there; the set is that after the forward commands passed. The starts fall by one with each visit. Assumes nothing.
+use mathlib.Core.Path.{_≡_, refl, sym, _∙_, subst⁻¹}
 use mathlib.Core.Bool.{true}
 use mathlib.Core.Logic.{⊎-elim}
 use mathlib.Core.List.{List}
@@ -9,44 +9,34 @@ use native.Mathlib.Omega.{arith}
 use borrow.Author.Needs.{needs}
 use borrow.Author.Tests.{not-true, not-false}
 use lib.ListN.{length}
-use Rattle.base.specs.Masks.{member}
-use Rattle.reversal.specs.Device.{tabled}
+use Rattle.base.specs.Masks.{cardinality}
+use Rattle.base.proofs.Visiting.{cardinality-less}
+use Rattle.reversal.specs.Device.{Device, tabled}
 use Rattle.reversal.specs.Reversal.{Item}
 use Rattle.reversal.specs.Chains.{item}
 use Rattle.reversal.specs.Computed.Sets.{reverses, effective}
-use Rattle.states.specs.declared.StateSet.{StateSet}
+use Rattle.states.proofs.Laws.{mask-of}
 use Rattle.book.specs.Book.{Book, AllowedBook, bytesOf}
 use Rattle.items.specs.Items.{ItemStands, Fields}
 use Rattle.checker.specs.declared.Reason.the-variants.{NoReversePlan, NotEffective}
 use Rattle.checker.specs.declared.Judgement.the-variants.{AllAccepted}
-use Rattle.checker.proofs.Items.{Reached, Ended, Passed, none-passed, reach-start, reach-next, reach-all, start-out, start-none, start-back, start-fails, starts-done}
+use Rattle.checker.proofs.Items.{Reached, Ended, Passed, none-passed, reach-start, reach-next, reach-all, start-none, start-back, start-fails, starts-done}
 use Rattle.checker.proofs.Judging.{passes-both, not-reversed, not-used, Walking, at-first, stands, at-next, none-wrong, found}
 use Rattle.checker.proofs.first_wrong.Statement.{statement}
 use Rattle.checker.proofs.first_wrong.Tie as tie
-use Rattle.checker.proofs.first_wrong.Reads as reads
-use Rattle.checker.proofs.first_wrong.Lts as lts
-use Rattle.checker.proofs.runs_back.Reads as runs-back-reads
-use Rattle.items.proofs.first_item.Reads as first-item-reads
-use Rattle.items.proofs.item_at.Reads as item-at-reads
-use Rattle.octets.proofs.byte_at.Reads as byte-at-reads
-use Rattle.states.proofs.StateSet.add.Reads as add-reads
-use Rattle.states.proofs.StateSet.after.Reads as after-reads
-use Rattle.states.proofs.StateSet.has.Reads as has-reads
-use Rattle.states.proofs.StateSet.is_empty.Reads as is-empty-reads
-use Rattle.states.proofs.StateSet.of.Reads as of-reads
-use Rattle.states.proofs.StateSet.within.Reads as within-reads
 
 abbrev Inv-loop2 : tie.InvT-loop2
-Inv-loop2 book table n m at found item forward reverse used start set₀ j₀ j-end set j = (j ≤ j-end) × Reached n m table book item start set j
+Inv-loop2 book table n m at found item forward reverse used starts start set₀ j₀ j-end set j = (j ≤ j-end) × Reached n m table book item start set j
 
 abbrev μ-loop2 : tie.MeasureT-loop2
-μ-loop2 book table n m at found item forward reverse used start set₀ j₀ j-end set j = j-end - j
+μ-loop2 book table n m at found item forward reverse used starts start set₀ j₀ j-end set j = j-end - j
 
 abbrev Inv-loop : tie.InvT-loop
-Inv-loop book table n m at found₀ item forward reverse used₀ start₀ found used start = (found ≡ AllAccepted) × (start ≤ n) × Passed n m table book item start used
+Inv-loop book table n m at found₀ item forward reverse used₀ starts₀ start₀ found used starts start =
+    (found ≡ AllAccepted) × Passed n m table book item (starts .mask) start used
 
 abbrev μ-loop : tie.MeasureT-loop
-μ-loop book table n m at found₀ item forward reverse used₀ start₀ found used start = n - start
+μ-loop book table n m at found₀ item forward reverse used₀ starts₀ start₀ found used starts start = cardinality n (starts .mask)
 
 abbrev Inv-items : tie.InvT-items
 Inv-items book table n m at₀ found₀ at found =
@@ -69,6 +59,12 @@ module _ (c : tie.After-item-at Inv-loop2 μ-loop2 Inv-loop μ-loop Inv-items μ
   abbrev mOf : ℕ
   mOf = c .before .before .before .before .before .before .args .m
 
+  abbrev device : Device
+  device = tabled nOf mOf tableOf
+
+  few : nOf ≤ 64
+  few = c .before .before .before .before .before .before .pre .0
+
   abbrev atOf : ℕ
   atOf = c .before .before .items .at
 
@@ -76,11 +72,11 @@ module _ (c : tie.After-item-at Inv-loop2 μ-loop2 Inv-loop μ-loop Inv-items μ
   EndedFrom S w = Ended nOf mOf tableOf bookOf (c .item-at .result) S w
 
   -- where the walk is, in every book whose bytes these are
-  abbrev walk : (b : Book) → AllowedBook b → bytesOf b ≡ bookOf → Walking (tabled nOf mOf tableOf) bookOf b atOf
+  abbrev walk : (b : Book) → AllowedBook b → bytesOf b ≡ bookOf → Walking device bookOf b atOf
   walk b a e = c .before .before .items .inv .1 b a e
 
   there : (b : Book) (a : AllowedBook b) (e : bytesOf b ≡ bookOf) → ItemStands bookOf b (walk b a e .number) atOf
-  there b a e = stands (tabled nOf mOf tableOf) bookOf b a e atOf (walk b a e) (c .before .items-test .taken)
+  there b a e = stands device bookOf b a e atOf (walk b a e) (c .before .items-test .taken)
 
   is : (b : Book) (a : AllowedBook b) (e : bytesOf b ≡ bookOf) → Fields bookOf (c .item-at .result) (item (b .items) (walk b a e .number))
   is b a e = c .item-at .ensures .fields (there b a e)
@@ -95,22 +91,17 @@ module _ (c : tie.After-item-at Inv-loop2 μ-loop2 Inv-loop μ-loop Inv-items μ
 
 -- ---- the item at the places where a start is judged
 abbrev at-within : tie.After-within Inv-loop2 μ-loop2 Inv-loop μ-loop Inv-items μ-items → tie.After-item-at Inv-loop2 μ-loop2 Inv-loop μ-loop Inv-items μ-items
-at-within c = c .before .before .before .before .before .before .before .before .before .before
+at-within c = c .before .before .before .before .before .before .before .before .before
 
-abbrev at-ends : tie.Then2 Inv-loop2 μ-loop2 Inv-loop μ-loop Inv-items μ-items → tie.After-item-at Inv-loop2 μ-loop2 Inv-loop μ-loop Inv-items μ-items
-at-ends c = at-within (c .before .before)
+-- the start that is judged
+abbrev at-start : tie.After-within Inv-loop2 μ-loop2 Inv-loop μ-loop Inv-items μ-items → tie.At-loop Inv-loop2 μ-loop2 Inv-loop μ-loop Inv-items μ-items
+at-start c = c .before .before .before .before .before .before
 
-has-is : (c : tie.After-has Inv-loop2 μ-loop2 Inv-loop μ-loop Inv-items μ-items)
-    → c .has .result ≡ member (c .before .before .before .before .item-at .result .psi) (c .before .before .before .loop .start)
-has-is c = c .has .ensures ∙ ap (λ (x : StateSet). member (x .mask) (c .before .before .before .loop .start)) (c .before .of .ensures)
-
-ended : (c : tie.After-within Inv-loop2 μ-loop2 Inv-loop μ-loop Inv-items μ-items)
-    → EndedFrom (at-within c) (c .before .before .before .before .before .before .before .before .before .loop .start) (c .within .result .mask)
+ended : (c : tie.After-within Inv-loop2 μ-loop2 Inv-loop μ-loop Inv-items μ-items) → EndedFrom (at-within c) (at-start c .loop .start) (c .within .result .mask)
 ended c =
     let i = at-within c in
     let v = c .before .before .loop2 in
-    let S = c .before .before .before .before .before .before .before .before .before .loop .start in
-    reach-all (nOf i) (mOf i) (tableOf i) (bookOf i) (i .item-at .result) S (v .set) _ (v .j) (omega arith) (v .inv .1) (c .within .ensures)
+    reach-all (nOf i) (mOf i) (tableOf i) (bookOf i) (i .item-at .result) (at-start c .loop .start) (v .set) _ (v .j) (omega arith) (v .inv .1) (c .within .ensures)
 
 first-item-requires :
     tie.Need-first-item-requires Inv-loop2 μ-loop2 Inv-loop μ-loop Inv-items μ-items
@@ -122,15 +113,18 @@ items-holds c = (refl, λ b a e. at-first _ _ b _ (c .first-item .ensures .begin
 item-at-requires : tie.Need-item-at-requires Inv-loop2 μ-loop2 Inv-loop μ-loop Inv-items μ-items
 item-at-requires c κs = search needs
 
-loop-holds : tie.Need-loop-holds Inv-loop2 μ-loop2 Inv-loop μ-loop Inv-items μ-items
-loop-holds c =
-    (c .before .before .items .inv .0, omega arith, none-passed (nOf c) (mOf c) (tableOf c) (bookOf c) (c .item-at .result))
-
 of-requires : tie.Need-of-requires Inv-loop2 μ-loop2 Inv-loop μ-loop Inv-items μ-items
 of-requires c κs = search needs
 
-has-requires : tie.Need-has-requires Inv-loop2 μ-loop2 Inv-loop μ-loop Inv-items μ-items
-has-requires c κs = search needs
+lowest-requires : tie.Need-lowest-requires Inv-loop2 μ-loop2 Inv-loop μ-loop Inv-items μ-items
+lowest-requires c κs = search needs
+
+loop-holds : tie.Need-loop-holds Inv-loop2 μ-loop2 Inv-loop μ-loop Inv-items μ-items
+loop-holds c =
+    let i = c .before .before in (
+      i .before .before .items .inv .0,
+      none-passed (nOf i) (mOf i) (tableOf i) (bookOf i) (i .item-at .result) _ _ (mask-of (c .before .of .ensures)) (c .lowest .ensures),
+    )
 
 of-requires-2 : tie.Need-of-requires-2 Inv-loop2 μ-loop2 Inv-loop μ-loop Inv-items μ-items
 of-requires-2 c κs = search needs
@@ -140,23 +134,23 @@ add-requires c κs = search needs
 
 loop2-holds : tie.Need-loop2-holds Inv-loop2 μ-loop2 Inv-loop μ-loop Inv-items μ-items
 loop2-holds c =
-    let S = c .before .before .before .before .before .before .loop .start in
-    let i = c .before .before .before .before .before .before .before in (
+    let S = c .before .before .before .loop .start in
+    let i = c .before .before .before .before .before .before in (
       omega arith,
       reach-start (nOf i) (mOf i) (tableOf i) (bookOf i) (i .item-at .result) S _ _ (omega arith) (c .before .of2 .ensures) (c .add .ensures),
     )
 
 add-byte-at : tie.Need-add-byte-at Inv-loop2 μ-loop2 Inv-loop μ-loop Inv-items μ-items
-add-byte-at c = omega (arith, inside (c .before .before .before .before .before .before .before .before .before .before))
+add-byte-at c = omega (arith, inside (c .before .before .before .before .before .before .before .before .before))
 
 sub-byte-at : tie.Need-sub-byte-at Inv-loop2 μ-loop2 Inv-loop μ-loop Inv-items μ-items
-sub-byte-at c = omega (arith, inside (c .before .before .before .before .before .before .before .before .before .before))
+sub-byte-at c = omega (arith, inside (c .before .before .before .before .before .before .before .before .before))
 
 part-byte-at-start : tie.Need-part-byte-at-start Inv-loop2 μ-loop2 Inv-loop μ-loop Inv-items μ-items
-part-byte-at-start c = omega (arith, inside (c .before .before .before .before .before .before .before .before .before .before))
+part-byte-at-start c = omega (arith, inside (c .before .before .before .before .before .before .before .before .before))
 
 part-byte-at-end : tie.Need-part-byte-at-end Inv-loop2 μ-loop2 Inv-loop μ-loop Inv-items μ-items
-part-byte-at-end c = omega (arith, inside (c .before .before .before .before .before .before .before .before .before .before))
+part-byte-at-end c = omega (arith, inside (c .before .before .before .before .before .before .before .before .before))
 
 byte-at-requires : tie.Need-byte-at-requires Inv-loop2 μ-loop2 Inv-loop μ-loop Inv-items μ-items
 byte-at-requires c κs = search needs
@@ -174,11 +168,11 @@ loop2-again : tie.Need-loop2-again Inv-loop2 μ-loop2 Inv-loop μ-loop Inv-items
 loop2-again c =
     let t = c .before .before .before .before in
     let v = t .before .loop2 in
-    let l = t .before .before .before .before .before .before .before .before in
-    let i = l .before in
+    let l = t .before .before .before .before .before .loop in
+    let i = t .before .before .before .before .before .before .before .before in
     let pre = i .before .before .before .before .before .before .pre in (
       omega arith,
-      reach-next (nOf i) (mOf i) (tableOf i) (bookOf i) (i .item-at .result) (l .loop .start) (v .set) _ (v .j) _ (pre .0) (pre .1) (t .loop2-test .taken) (v .inv .1)
+      reach-next (nOf i) (mOf i) (tableOf i) (bookOf i) (i .item-at .result) (l .start) (v .set) _ (v .j) _ (pre .0) (pre .1) (t .loop2-test .taken) (v .inv .1)
           (c .before .byte-at .ensures .0) (c .after .ensures),
     )
 
@@ -189,76 +183,80 @@ is-empty-requires : tie.Need-is-empty-requires Inv-loop2 μ-loop2 Inv-loop μ-lo
 is-empty-requires c κs = search needs
 
 add-runs-back : tie.Need-add-runs-back Inv-loop2 μ-loop2 Inv-loop μ-loop Inv-items μ-items
-add-runs-back c = omega (arith, inside (at-ends (c .before)))
+add-runs-back c = omega (arith, inside (at-within (c .before .before .before)))
 
 sub-runs-back : tie.Need-sub-runs-back Inv-loop2 μ-loop2 Inv-loop μ-loop Inv-items μ-items
-sub-runs-back c = omega (arith, inside (at-ends (c .before)))
+sub-runs-back c = omega (arith, inside (at-within (c .before .before .before)))
 
 part-runs-back-start :
     tie.Need-part-runs-back-start Inv-loop2 μ-loop2 Inv-loop μ-loop Inv-items μ-items
-part-runs-back-start c = omega (arith, inside (at-ends (c .before)))
+part-runs-back-start c = omega (arith, inside (at-within (c .before .before .before)))
 
 part-runs-back-end :
     tie.Need-part-runs-back-end Inv-loop2 μ-loop2 Inv-loop μ-loop Inv-items μ-items
-part-runs-back-end c = omega (arith, inside (at-ends (c .before)))
+part-runs-back-end c = omega (arith, inside (at-within (c .before .before .before)))
 
 runs-back-requires :
     tie.Need-runs-back-requires Inv-loop2 μ-loop2 Inv-loop μ-loop Inv-items μ-items
 runs-back-requires c κs =
     let w = c .before .before .before .before in
     let pre = at-within w .before .before .before .before .before .before .pre in
-    let l = w .before .before .before .before .before .before .before .before .loop-test .taken in (pre .0, pre .1, omega arith)
+    let l = w .before .before .before .before .before .loop-test .taken in (pre .0, pre .1, omega arith)
 
-add-start : tie.Need-add-start Inv-loop2 μ-loop2 Inv-loop μ-loop Inv-items μ-items
-add-start c = omega arith
+without-requires : tie.Need-without-requires Inv-loop2 μ-loop2 Inv-loop μ-loop Inv-items μ-items
+without-requires c κs = search needs
+
+lowest-requires-2 : tie.Need-lowest-requires-2 Inv-loop2 μ-loop2 Inv-loop μ-loop Inv-items μ-items
+lowest-requires-2 c κs = search needs
 
 loop-less : tie.Need-loop-less Inv-loop2 μ-loop2 Inv-loop μ-loop Inv-items μ-items
-loop-less c = omega arith
+loop-less c =
+    let w = c .before .before .before .before in
+    let l = at-start w .loop in
+    cardinality-less _ (l .starts .mask) (l .start) _ (few (at-within w)) (l .inv .1 .next)
+    (w .before .before .before .before .before .loop-test .taken) (mask-of (c .before .without .ensures))
 
 loop-again : tie.Need-loop-again Inv-loop2 μ-loop2 Inv-loop μ-loop Inv-items μ-items
 loop-again c =
-    let i = c .before .before .before .before .before in
-    let S = c .before .before .before .before .loop .start in
-    let passed = c .before .before .before .before .loop .inv .2 in
-    let now = Passed (nOf i) (mOf i) (tableOf i) (bookOf i) (i .item-at .result) (S + 1) in (
-      c .before .before .before .before .loop .inv .0,
-      omega arith,
+    let w = c .before .before .before .before in
+    let i = at-within w in
+    let l = at-start w .loop in
+    let t = w .before .before .before .before .before .loop-test .taken in
+    let e = mask-of (c .before .without .ensures) in
+    let ends = w .within .result .mask in (
+      l .inv .0,
       ⊎-elim
-          (λ w. subst⁻¹ now (w .12)
-          (start-back (nOf i) (mOf i) (tableOf i) (bookOf i) (i .item-at .result) S (w .5 .result .mask)
-          (reach-all (nOf i) (mOf i) (tableOf i) (bookOf i) (i .item-at .result) S (w .3 .set) _ (w .3 .j) (omega arith) (w .3 .inv .1) (w .5 .ensures))
-          (sym (has-is (c .before)) ∙ w .0 .taken) (sym (w .6 .ensures) ∙ not-true _ (w .7 .taken)) passed (sym (w .10 .ensures) ∙ not-false _ (w .11 .left))))
-          (⊎-elim
-          (λ w. subst⁻¹ now (w .8)
-          (start-none (nOf i) (mOf i) (tableOf i) (bookOf i) (i .item-at .result) S (w .5 .result .mask)
-          (reach-all (nOf i) (mOf i) (tableOf i) (bookOf i) (i .item-at .result) S (w .3 .set) _ (w .3 .j) (omega arith) (w .3 .inv .1) (w .5 .ensures))
-          passed (sym (w .6 .ensures) ∙ not-false _ (w .7 .left))))
-          (λ w. subst⁻¹ now (w .1)
-          (start-out (nOf i) (mOf i) (tableOf i) (bookOf i) (i .item-at .result) passed (sym (has-is (c .before)) ∙ w .0 .left))))
-          (c .if1 .came),
+          (λ q. subst⁻¹ (Passed (nOf i) (mOf i) (tableOf i) (bookOf i) (i .item-at .result) _ _) (q .5)
+          (start-back (nOf i) (mOf i) (tableOf i) (bookOf i) (i .item-at .result) _ _ (l .inv .1) (few i) ends (ended w) t _ _ e (c .lowest2 .ensures)
+          (sym (c .before .before .before .is-empty .ensures) ∙ not-true _ (q .0 .taken)) (sym (q .3 .ensures) ∙ not-false _ (q .4 .left))))
+          (λ q. subst⁻¹ (Passed (nOf i) (mOf i) (tableOf i) (bookOf i) (i .item-at .result) _ _) (q .1)
+          (start-none (nOf i) (mOf i) (tableOf i) (bookOf i) (i .item-at .result) _ _ (l .inv .1) (few i) ends (ended w) t _ _ e (c .lowest2 .ensures)
+          (sym (c .before .before .before .is-empty .ensures) ∙ not-false _ (q .0 .left))))
+          (c .before .before .if1 .came),
     )
 
 items-less : tie.Need-items-less Inv-loop2 μ-loop2 Inv-loop μ-loop Inv-items μ-items
-items-less c = omega (arith, c .before .before .before .item-at .ensures .past (c .before .before .before .before .items-test .taken))
+items-less c = omega (arith, c .before .before .before .before .before .item-at .ensures .past (c .before .before .before .before .before .before .items-test .taken))
 
 -- all starts of the item passed, and some of them was used, or none
-starts-passed : (c : tie.After-loop Inv-loop2 μ-loop2 Inv-loop μ-loop Inv-items μ-items) → (x : Item)
-    → Fields (bookOf (c .before .before)) (c .before .before .item-at .result) x
-    → (reverses (tabled (nOf (c .before .before)) (mOf (c .before .before)) (tableOf (c .before .before))) x ≡ true)
-    × (effective (tabled (nOf (c .before .before)) (mOf (c .before .before)) (tableOf (c .before .before))) x ≡ c .before .loop .used)
+abbrev at-done : tie.After-loop Inv-loop2 μ-loop2 Inv-loop μ-loop Inv-items μ-items → tie.After-item-at Inv-loop2 μ-loop2 Inv-loop μ-loop Inv-items μ-items
+at-done c = c .before .before .before .before
+
+starts-passed : (c : tie.After-loop Inv-loop2 μ-loop2 Inv-loop μ-loop Inv-items μ-items) (x : Item) → Fields (bookOf (at-done c)) (at-done c .item-at .result) x
+    → (reverses (device (at-done c)) x ≡ true) × (effective (device (at-done c)) x ≡ c .before .loop .used)
 starts-passed c x f =
     let l = c .before .loop in
-    let i = c .before .before in
-    starts-done (nOf i) (mOf i) (tableOf i) (bookOf i) (i .item-at .result) (omega arith) (l .inv .2) x f
+    let i = at-done c in
+    starts-done (nOf i) (mOf i) (tableOf i) (bookOf i) (i .item-at .result) _ _ (l .inv .1) (c .loop-test .left) x f
 
 items-again : tie.Need-items-again Inv-loop2 μ-loop2 Inv-loop μ-loop Inv-items μ-items
 items-again c =
-    let i = c .before .before .before in
-    let t = c .before .before .before .before .items-test .taken in (
+    let i = c .before .before .before .before .before in
+    let t = c .before .before .before .before .before .before .items-test .taken in (
       c .before .before .loop .inv .0,
       λ b a e.
           let (r, u) = starts-passed (c .before) _ (is i b a e) in
-          at-next _ _ b a e _ (walk i b a e) t _ (i .item-at .ensures .next (there i b a e)) (passes-both _ _ r (u ∙ not-false _ (c .if4 .left))),
+          at-next _ _ b a e _ (walk i b a e) t _ (i .item-at .ensures .next (there i b a e)) (passes-both _ _ r (u ∙ not-false _ (c .if3 .left))),
     )
 
 returns : tie.Need-returns Inv-loop2 μ-loop2 Inv-loop μ-loop Inv-items μ-items
@@ -267,23 +265,22 @@ returns c = λ b a e q. c .before .items .inv .0 ∙ none-wrong _ _ b a e _ (c .
 returns-2 : tie.Need-returns-2 Inv-loop2 μ-loop2 Inv-loop μ-loop Inv-items μ-items
 returns-2 c =
     λ b a e q.
-    let t = c .before .before .before .before in
-    let w = t .before .before in
-    let h = w .before .before .before .before .before .before in
-    let l = h .before .before in
+    let w = c .before .before .before .before .before .before in
+    let l = at-start w .loop in
     let i = at-within w in
+    let ends = w .within .result .mask in
+    let some = sym (c .before .before .before .before .before .is-empty .ensures) ∙ not-true _ (c .before .before .before .before .if1 .taken) in
     found _ _ b a e _ (walk i b a e) q (i .before .items-test .taken) NoReversePlan
     (not-reversed _ _
-    (start-fails (nOf i) (mOf i) (tableOf i) (bookOf i) (i .item-at .result) (l .before .loop .start) (w .within .result .mask) (ended w)
-    (sym (has-is h) ∙ w .before .before .before .before .before .if1 .taken) (sym (t .before .is-empty .ensures) ∙ not-true _ (t .if2 .taken))
-    (l .loop-test .taken) (sym (c .before .runs-back .ensures) ∙ not-true _ (c .if3 .taken)) _ (is i b a e)))
+    (start-fails (nOf i) (mOf i) (tableOf i) (bookOf i) (i .item-at .result) _ _ (l .inv .1) (few i) ends (ended w) (w .before .before .before .before .before .loop-test .taken) some
+    (sym (c .before .runs-back .ensures) ∙ not-true _ (c .if2 .taken)) _ (is i b a e)))
 
 returns-3 : tie.Need-returns-3 Inv-loop2 μ-loop2 Inv-loop μ-loop Inv-items μ-items
 returns-3 c =
     λ b a e q.
-    let i = c .before .before .before in
+    let i = c .before .before .before .before .before in
     let (r, u) = starts-passed (c .before) _ (is i b a e) in
-    found _ _ b a e _ (walk i b a e) q (i .before .items-test .taken) NotEffective (not-used _ _ r (u ∙ not-true _ (c .if4 .taken)))
+    found _ _ b a e _ (walk i b a e) q (i .before .items-test .taken) NotEffective (not-used _ _ r (u ∙ not-true _ (c .if3 .taken)))
 
 pub first-wrong-spec : {M : Type 1} → statement M
 first-wrong-spec =
@@ -298,9 +295,9 @@ first-wrong-spec =
     first-item-requires
     items-holds
     item-at-requires
-    loop-holds
     of-requires
-    has-requires
+    lowest-requires
+    loop-holds
     of-requires-2
     add-requires
     loop2-holds
@@ -320,7 +317,8 @@ first-wrong-spec =
     part-runs-back-start
     part-runs-back-end
     runs-back-requires
-    add-start
+    without-requires
+    lowest-requires-2
     loop-less
     loop-again
     items-less

@@ -94,6 +94,9 @@ part='examples'
 byte() { # file, offset, value in octal: the file with that byte changed
     head -c "$2" "$1"; printf "\\$3"; tail -c +"$(($2 + 2))" "$1"
 }
+into() { # file, offset, bytes as printf takes them: the file with these put in
+    head -c "$2" "$1"; printf "$3"; tail -c +"$(($2 + 1))" "$1"
+}
 q=$data/book.bin
 mkdir "$work/in"
 cp "$q" "$data/run.bin" "$work/in"
@@ -112,6 +115,11 @@ cp "$q" "$data/run.bin" "$work/in"
     byte "$q" 137 1 >"$work/in/12-phi"
     byte "$q" 145 0 >"$work/in/12-psi"
     byte "$q" 217 6 >"$work/in/12-stuck"
+    into "$q" 20 '\6\0\5\0\2\0\2\0\2\0' >"$work/in/3-weights"
+    into "$q" 6 '\4\0\5\0\2\0\2\0' >"$work/in/4-weights"
+    into "$q" 6 '\6\0\5\0\1\0\1\0\351\3' >"$work/in/5-weights"
+    into "$q" 6 '\6\0\5\0\1\0\1\0\1\0' >"$work/in/13-ones"
+    into "$q" 6 '\6\0\5\0\5\0\1\0\350\3' >"$work/in/book-weights"
 )
 printf '\11\0\4\0\0\0\0\0\0\0\0\0\0' >"$work/in/run-10"
 printf '\22\0\4\0\1\1\7\0\0\0\0\0\0\0\7\0\0\0\0\0\0\0' >"$work/in/run-11"
@@ -152,6 +160,7 @@ if command -v cargo >/dev/null; then
     sed -n '/^## A page/,/^## /p' docs/FORMAT.md | sed -n 's/|$//p' | grep -v '^|' >"$work/page.txt"
     diff "$work/page.txt" "$work/c.out"
     try 0 "$in/book.bin" "$in/run-q11"
+    try 0 "$in/book-weights" "$in/run.bin"
     for book in "$in"/[0-9]*-*; do
         try 1 "$book" "$in/run.bin"
         code=${book##*/}

@@ -1,9 +1,10 @@
 /*
  * Every call on valid and damaged input, in buffers that can't be left: guard pages|heap CASES CALLS [SEED]
  *
- * pages  Each buffer begins or ends at a page that can't be touched. Inputs are read-only. Each call is made
- *        twice, on other addresses and other former contents; the second time, the buffers that a refusal
- *        leaves are read-only too. Both answers and what was written must be equal, and all else as before.
+ * pages  Each buffer begins or ends at a page that can't be touched; of those that end there, some are no
+ *        better aligned than their elements. Inputs are read-only. Each call is made twice, on other
+ *        addresses and other former contents; the second time, the buffers that a refusal leaves are
+ *        read-only too. Both answers and what was written must be equal, and all else as before.
  * heap   Buffers are of malloc and of exact length, and lent ones hold nothing yet: for valgrind.
  *
  * CASES holds the books and runs that all inputs start from. The last line gives the numbers of calls and of
@@ -19,7 +20,7 @@
 #include <sys/wait.h>
 #include <unistd.h>
 
-enum { PAGE = 4096, BOOK_ROOM = 10 * PAGE, CALLS = 8, CODES = 13 };
+enum { PAGE = 4096, BOOK_ROOM = 10 * PAGE, CALLS = 8, CODES = 14 };
 
 /* What assembling is lent for the legs, and whether a page. */
 enum { AS_BYTES, AS_STRUCTS, ON_PAPER, FORMS };
@@ -61,7 +62,8 @@ typedef struct {
     uint8_t fill;
 } area;
 
-static area book, run, table, slots, plan, legs, structs, paper, write_table, write_slots, out;
+static area book, run, table, slots, weights, plan, legs, structs, paper;
+static area write_table, write_slots, write_weights, out;
 
 static void map(area *a, size_t room) {
     uint8_t *all;
@@ -159,7 +161,7 @@ static void wrote(const area *a, size_t used, copy *c, int second) {
 
 /* The lengths of the lent buffers, in elements. */
 typedef struct {
-    size_t table, slots, plan, legs, structs, paper, write_table, write_slots, out;
+    size_t table, slots, weights, plan, legs, structs, paper, write_table, write_slots, write_weights, out;
 } lengths;
 
 static size_t length(size_t stated, int is_short) {
@@ -169,7 +171,7 @@ static size_t length(size_t stated, int is_short) {
 }
 
 static lengths some_lengths(void) {
-    size_t is_short = below(7) == 0 ? 1 + below(5) : 0, writing = below(8) == 0 ? 1 + below(3) : 0;
+    size_t is_short = below(7) == 0 ? 1 + below(6) : 0, writing = below(8) == 0 ? 1 + below(4) : 0;
     lengths l;
     l.table = length(ROLLBACK_TABLE_LEN, is_short == 1);
     l.slots = length(ROLLBACK_SLOTS_LEN, is_short == 2);
@@ -177,10 +179,17 @@ static lengths some_lengths(void) {
     l.legs = length(ROLLBACK_LEGS_LEN, is_short == 4);
     l.structs = length(ROLLBACK_LEG_STRUCTS_LEN, is_short == 4);
     l.paper = length(ROLLBACK_PAGE_LEN, is_short == 5);
+    l.weights = length(ROLLBACK_WEIGHTS_LEN, is_short == 6);
     l.write_table = length(ROLLBACK_TABLE_LEN, writing == 1);
     l.write_slots = length(ROLLBACK_SLOTS_LEN, writing == 2);
     l.out = length(ROLLBACK_BOOK_LEN, writing == 3);
+    l.write_weights = length(ROLLBACK_WEIGHTS_LEN, writing == 4);
     return l;
+}
+
+/* Whether a call with this code leaves the book in table, slots and weights. */
+static int leaves_the_book(uint64_t code) {
+    return code == ROLLBACK_E_DONE || (code >= ROLLBACK_E_NOT_REVERSE_PLAN && code <= ROLLBACK_E_NOT_EFFECTIVE);
 }
 
 static void count(size_t call, uint64_t code, int on_read_only) {
@@ -194,20 +203,40 @@ static void count(size_t call, uint64_t code, int on_read_only) {
 /* The reading of the book at hand. */
 static rollback_reading device;
 
-/* Reading or checking, once or for the second time after the answer `first`. */
-static rollback_reading reading(size_t call, lengths l, int at_end, const rollback_reading *first) {
-    static copy tables, all_slots;
-    rollback_reading r;
-    int second = first != NULL, untouched = second && first->code >= 1 && first->code <= 7;
+/* Lends what reading fills; read-only where it is to stay. */
+static void lend_for_book(lengths l, int at_end, int untouched) {
     lend(&table, l.table * sizeof(uint64_t), at_end, (uint8_t)word());
     lend(&slots, l.slots, at_end, (uint8_t)word());
+    lend(&weights, l.weights * sizeof(uint16_t), at_end, (uint8_t)word());
     if (untouched) {
         allow(&table, PROT_READ);
         allow(&slots, PROT_READ);
+        allow(&weights, PROT_READ);
     }
+}
+
+/* What reading fills holds the book of `device`, or all stays. */
+static void wrote_book(uint64_t code, copy *tables, copy *all_slots, copy *all_weights, int second) {
+    if (leaves_the_book(code)) {
+        wrote(&table, device.n * device.m * sizeof(uint64_t), tables, second);
+        wrote(&slots, device.items * ROLLBACK_SLOT_LEN, all_slots, second);
+        wrote(&weights, device.m * sizeof(uint16_t), all_weights, second);
+    } else {
+        kept(&table, 0);
+        kept(&slots, 0);
+        kept(&weights, 0);
+    }
+}
+
+/* Reading or checking, once or for the second time after the answer `first`. */
+static rollback_reading reading(size_t call, lengths l, int at_end, const rollback_reading *first) {
+    static copy tables, all_slots, all_weights;
+    rollback_reading r;
+    int second = first != NULL, untouched = second && !leaves_the_book(first->code);
+    lend_for_book(l, at_end, untouched);
     now = call == 0 ? "rollback_read" : "rollback_check";
     r = (call == 0 ? rollback_read : rollback_check)(pointer(&book), book.bytes, pointer(&table), l.table,
-                                                     pointer(&slots), l.slots);
+                                                     pointer(&slots), l.slots, pointer(&weights), l.weights);
     count(call, r.code, untouched);
     if (second && (r.code != first->code || r.place != first->place || r.n != first->n || r.m != first->m ||
                    r.items != first->items))
@@ -216,26 +245,31 @@ static rollback_reading reading(size_t call, lengths l, int at_end, const rollba
         fail("refused with numbers that are not 0");
     if (call == 0)
         device = r;
-    if (r.code == 0 || r.code >= 8) {
-        wrote(&table, device.n * device.m * sizeof(uint64_t), &tables, second);
-        wrote(&slots, device.items * ROLLBACK_SLOT_LEN, &all_slots, second);
-    } else {
-        kept(&table, 0);
-        kept(&slots, 0);
-    }
+    wrote_book(r.code, &tables, &all_slots, &all_weights, second);
     return r;
+}
+
+/* The sum of the weights of so many commands of the plan, as both are lent. */
+static uint64_t plan_sum(uint64_t commands) {
+    const uint16_t *weight = (const void *)weights.at;
+    uint64_t i, sum = 0;
+    for (i = 0; i < commands; i++) {
+        if (plan.at[i] >= device.m)
+            fail("gave a command that the device lacks");
+        sum += weight[plan.at[i]];
+    }
+    return sum;
 }
 
 /* Assembling in one of its forms. Without a page the length is 0. */
 static rollback_paged assembling(int form, lengths l, int at_end, const rollback_paged *first) {
     static const char *const names[FORMS] = {"rollback_assemble", "rollback_assemble_legs", "rollback_page"};
-    static copy tables, all_slots, commands, all_legs, lines;
+    static copy tables, all_slots, all_weights, commands, all_legs, lines;
     area *lent_legs = form == AS_STRUCTS ? &structs : &legs;
     rollback_paged p;
     const rollback_assembly *r = &p.assembly, *before = first == NULL ? NULL : &first->assembly;
     int second = first != NULL, refused = second && before->code != 0;
-    lend(&table, l.table * sizeof(uint64_t), at_end, (uint8_t)word());
-    lend(&slots, l.slots, at_end, (uint8_t)word());
+    lend_for_book(l, at_end, refused && !leaves_the_book(before->code));
     lend(&plan, l.plan, at_end, (uint8_t)word());
     lend(lent_legs, form == AS_STRUCTS ? l.structs * sizeof(rollback_leg) : l.legs, at_end, (uint8_t)word());
     lend(&paper, l.paper, at_end, (uint8_t)word());
@@ -243,41 +277,34 @@ static rollback_paged assembling(int form, lengths l, int at_end, const rollback
         allow(&plan, PROT_READ);
         allow(lent_legs, PROT_READ);
         allow(&paper, PROT_READ);
-        if (before->code <= 7) {
-            allow(&table, PROT_READ);
-            allow(&slots, PROT_READ);
-        }
     }
     now = names[form];
     p.length = 0;
     if (form == AS_STRUCTS)
         p.assembly = rollback_assemble_legs(pointer(&book), book.bytes, pointer(&run), run.bytes, pointer(&table),
-                                            l.table, pointer(&slots), l.slots, pointer(&plan), l.plan,
-                                            pointer(&structs), l.structs);
+                                            l.table, pointer(&slots), l.slots, pointer(&weights), l.weights,
+                                            pointer(&plan), l.plan, pointer(&structs), l.structs);
     else if (form == AS_BYTES)
         p.assembly = rollback_assemble(pointer(&book), book.bytes, pointer(&run), run.bytes, pointer(&table), l.table,
-                                       pointer(&slots), l.slots, pointer(&plan), l.plan, pointer(&legs), l.legs);
+                                       pointer(&slots), l.slots, pointer(&weights), l.weights, pointer(&plan), l.plan,
+                                       pointer(&legs), l.legs);
     else
         p = rollback_page(pointer(&book), book.bytes, pointer(&run), run.bytes, pointer(&table), l.table,
-                          pointer(&slots), l.slots, pointer(&plan), l.plan, pointer(&legs), l.legs,
-                          pointer(&paper), l.paper);
+                          pointer(&slots), l.slots, pointer(&weights), l.weights, pointer(&plan), l.plan,
+                          pointer(&legs), l.legs, pointer(&paper), l.paper);
     count(2 + (size_t)form, r->code, refused);
     look(r->fewest, sizeof r->fewest);
     if (second && (r->code != before->code || r->place != before->place || r->commands != before->commands ||
-                   r->legs != before->legs || memcmp(r->fewest, before->fewest, sizeof r->fewest) != 0 ||
-                   p.length != first->length))
+                   r->legs != before->legs || r->sum != before->sum ||
+                   memcmp(r->fewest, before->fewest, sizeof r->fewest) != 0 || p.length != first->length))
         fail("gave another answer the second time");
-    if (r->code != 0 && (r->commands != 0 || r->legs != 0))
-        fail("refused with counts that are not 0");
+    if (r->code != 0 && (r->commands != 0 || r->legs != 0 || r->sum != 0))
+        fail("refused with counts or a sum that are not 0");
+    if (r->code == 0 && r->sum != plan_sum(r->commands))
+        fail("gave a sum that is not that of its commands' weights");
     if (p.length != (form == ON_PAPER ? r->legs * ROLLBACK_PAGE_LINE_LEN : 0))
         fail("gave a length that is not that of its legs' lines");
-    if (r->code == 0 || r->code >= 8) {
-        wrote(&table, device.n * device.m * sizeof(uint64_t), &tables, second);
-        wrote(&slots, device.items * ROLLBACK_SLOT_LEN, &all_slots, second);
-    } else {
-        kept(&table, 0);
-        kept(&slots, 0);
-    }
+    wrote_book(r->code, &tables, &all_slots, &all_weights, second);
     wrote(&plan, r->commands, &commands, second);
     wrote(lent_legs, r->legs * 3, &all_legs, second);
     wrote(&paper, p.length, &lines, second);
@@ -294,7 +321,7 @@ static rollback_writing writing(uint64_t n, uint64_t m, uint64_t items, lengths 
         allow(&out, PROT_READ);
     now = "rollback_write";
     r = rollback_write(n, m, items, pointer(&write_table), l.write_table, pointer(&write_slots), l.write_slots,
-                       pointer(&out), l.out);
+                       pointer(&write_weights), l.write_weights, pointer(&out), l.out);
     count(5, r.code, refused);
     if (second && (r.code != first->code || r.place != first->place || r.length != first->length))
         fail("gave another answer the second time");
@@ -355,6 +382,7 @@ static void looking_up(size_t call, const char *name, rollback_lookup (*lookup)(
 static void all_calls(const uint8_t *book_bytes, size_t book_length, const uint8_t *run_bytes, size_t run_length) {
     /* What the last good book was read to. */
     static uint8_t entries[ROLLBACK_TABLE_LEN * sizeof(uint64_t)], items[ROLLBACK_SLOTS_LEN];
+    static uint16_t weight_of[ROLLBACK_WEIGHTS_LEN];
     static uint64_t numbers[3];
     lengths l = some_lengths();
     rollback_reading r;
@@ -368,6 +396,7 @@ static void all_calls(const uint8_t *book_bytes, size_t book_length, const uint8
     if (r.code == 0) {
         memcpy(entries, table.at, r.n * r.m * sizeof(uint64_t));
         memcpy(items, slots.at, r.items * ROLLBACK_SLOT_LEN);
+        memcpy(weight_of, weights.at, r.m * sizeof(uint16_t));
         numbers[0] = r.n;
         numbers[1] = r.m;
         numbers[2] = r.items;
@@ -388,9 +417,12 @@ static void all_calls(const uint8_t *book_bytes, size_t book_length, const uint8
         entries[below(64)] = (uint8_t)word();
     if (below(5) == 0)
         items[below(120)] ^= (uint8_t)(1u << below(8));
+    if (below(8) == 0)
+        weight_of[below(4)] = (uint16_t)(below(2) ? below(4) : below(2) ? 998 + below(6) : word());
     give(&write_table, entries, n <= 64 && m <= 32 ? n * m * sizeof(uint64_t) : 0,
          l.write_table * sizeof(uint64_t), at_end);
     give(&write_slots, items, all <= 64 ? all * ROLLBACK_SLOT_LEN : 0, l.write_slots, at_end);
+    give(&write_weights, weight_of, m <= 32 ? m * sizeof(uint16_t) : 0, l.write_weights * sizeof(uint16_t), at_end);
     w = writing(n, m, all, l, at_end, NULL);
     writing(n, m, all, l, !at_end, &w);
 
@@ -423,7 +455,7 @@ static void try_pages(void) {
 int main(int argc, char **argv) {
     static const char *const names[CALLS] = {"read", "check", "assemble", "assemble_legs",
                                              "page", "write", "ridge", "portable"};
-    static const unsigned has[CALLS] = {0x00FF, 0x11FF, 0x1FFF, 0x1FFF, 0x1FFF, 0x00A3, 0x0021, 0x0021};
+    static const unsigned has[CALLS] = {0x20FF, 0x31FF, 0x3FFF, 0x3FFF, 0x3FFF, 0x00A3, 0x0021, 0x0021};
     static uint8_t book_bytes[BOOK_ROOM], run_bytes[BOOK_ROOM];
     file cases;
     pair *pairs;
@@ -448,12 +480,14 @@ int main(int argc, char **argv) {
     map(&run, BOOK_ROOM);
     map(&table, 5 * PAGE);
     map(&slots, PAGE);
+    map(&weights, PAGE);
     map(&plan, PAGE);
     map(&legs, PAGE);
     map(&structs, PAGE);
     map(&paper, PAGE);
     map(&write_table, 5 * PAGE);
     map(&write_slots, PAGE);
+    map(&write_weights, PAGE);
     map(&out, BOOK_ROOM);
     if (!heap)
         try_pages();

@@ -10,16 +10,22 @@ typedef char slots_of_64_items[ROLLBACK_SLOTS_LEN == 64 * ROLLBACK_SLOT_LEN ? 1 
 typedef char legs_of_3_bytes[ROLLBACK_LEGS_LEN == 3 * ROLLBACK_LEG_STRUCTS_LEN ? 1 : -1];
 typedef char leg_of_3_bytes[sizeof(rollback_leg) == 3 ? 1 : -1];
 typedef char table_of_largest_device[ROLLBACK_TABLE_LEN == 64 * 32 ? 1 : -1];
+typedef char weights_of_32_commands[ROLLBACK_WEIGHTS_LEN == 32 ? 1 : -1];
 typedef char plan_of_32_items[ROLLBACK_PLAN_LEN == 32 * 8 ? 1 : -1];
 typedef char page_of_32_lines[ROLLBACK_PAGE_LEN == 32 * ROLLBACK_PAGE_LINE_LEN ? 1 : -1];
-typedef char largest_book[ROLLBACK_BOOK_LEN == 6 + 2048 * 14 + 64 * 38 ? 1 : -1];
+typedef char largest_book[ROLLBACK_BOOK_LEN == 6 + 4 + 2 * 32 + 2048 * 14 + 64 * 38 ? 1 : -1];
 typedef char largest_run[ROLLBACK_RUN_LEN == 4 + 9 + 9 * (ROLLBACK_POINTS_LEN - 1) ? 1 : -1];
 typedef char plain_results[sizeof(rollback_reading) == 40 && sizeof(rollback_writing) == 24 &&
-                                   sizeof(rollback_lookup) == 24 && sizeof(rollback_assembly) == 104
+                                   sizeof(rollback_lookup) == 24
                                ? 1
                                : -1];
-typedef char paged_result[sizeof(rollback_paged) == 112 && offsetof(rollback_paged, assembly) == 0 &&
-                                  offsetof(rollback_paged, length) == 104
+typedef char assembly_result[sizeof(rollback_assembly) == 176 && offsetof(rollback_assembly, sum) == 32 &&
+                                     offsetof(rollback_assembly, fewest) == 40
+                                 ? 1
+                                 : -1];
+typedef char no_chain_in_32_bits[ROLLBACK_NONE == (uint32_t)-1 ? 1 : -1];
+typedef char paged_result[sizeof(rollback_paged) == 184 && offsetof(rollback_paged, assembly) == 0 &&
+                                  offsetof(rollback_paged, length) == 176
                               ? 1
                               : -1];
 
@@ -43,11 +49,13 @@ static void expect_record(const uint8_t *book, size_t length, uint64_t place, co
 
 int main(void) {
     static uint64_t table[ROLLBACK_TABLE_LEN];
+    static uint16_t weights[ROLLBACK_WEIGHTS_LEN];
     static uint8_t slots[ROLLBACK_SLOTS_LEN], plan[ROLLBACK_PLAN_LEN], legs[ROLLBACK_LEGS_LEN];
     static uint8_t book[ROLLBACK_BOOK_LEN], page[ROLLBACK_PAGE_LEN];
     static rollback_leg structs[ROLLBACK_LEG_STRUCTS_LEN];
-    /* One state, one command that stays there, no items; then bytes of no known kind. */
-    static const uint8_t small[] = {2, 0, 1, 0, 1, 1, 10, 0, 2, 0, 0, 0, 1, 0, 0, 0, 0, 0, 0, 0, 0, 0, 9, 9};
+    /* One state, one command of weight 700 that stays there, no items; then bytes of no known kind. */
+    static const uint8_t small[] = {2, 0, 1, 0, 1, 1, 2, 0, 5, 0, 188, 2, 10, 0, 2,
+                                    0, 0, 0, 1, 0, 0, 0, 0, 0, 0, 0, 0, 0, 9, 9};
     static const uint8_t run[] = {9, 0, 4, 0, 0, 1, 0, 0, 0, 0, 0, 0, 0};
     char version[32];
     rollback_reading read, checked;
@@ -58,21 +66,26 @@ int main(void) {
     sprintf(version, "%d.%d.%d", ROLLBACK_VERSION_MAJOR, ROLLBACK_VERSION_MINOR, ROLLBACK_VERSION_PATCH);
     expect(version, ROLLBACK_VERSION);
 
-    read = rollback_read(small, 20, table, ROLLBACK_TABLE_LEN, slots, ROLLBACK_SLOTS_LEN);
-    checked = rollback_check(small, 20, table, ROLLBACK_TABLE_LEN, slots, ROLLBACK_SLOTS_LEN);
-    bytes = rollback_assemble(small, 20, run, sizeof run, table, ROLLBACK_TABLE_LEN, slots, ROLLBACK_SLOTS_LEN,
-                              plan, ROLLBACK_PLAN_LEN, legs, ROLLBACK_LEGS_LEN);
-    in_structs = rollback_assemble_legs(small, 20, run, sizeof run, table, ROLLBACK_TABLE_LEN, slots,
-                                        ROLLBACK_SLOTS_LEN, plan, ROLLBACK_PLAN_LEN, structs,
-                                        ROLLBACK_LEG_STRUCTS_LEN);
-    paged = rollback_page(small, 20, run, sizeof run, table, ROLLBACK_TABLE_LEN, slots, ROLLBACK_SLOTS_LEN,
-                          plan, ROLLBACK_PLAN_LEN, legs, ROLLBACK_LEGS_LEN, page, ROLLBACK_PAGE_LEN);
-    written = rollback_write(1, 1, 0, table, ROLLBACK_TABLE_LEN, slots, ROLLBACK_SLOTS_LEN, book, ROLLBACK_BOOK_LEN);
-    if (read.code != ROLLBACK_E_DONE || read.n != 1 || read.m != 1 || read.items != 0 || checked.code != read.code ||
-        bytes.code != ROLLBACK_E_DONE || bytes.fewest[0] != 0 || bytes.fewest[1] != ROLLBACK_NONE ||
-        in_structs.code != bytes.code || paged.assembly.code != bytes.code || paged.assembly.fewest[0] != 0 ||
-        paged.length != 0 || page[0] != 0 || written.code != ROLLBACK_E_DONE || written.length != 20 ||
-        memcmp(book, small, 20) != 0 || rollback_ridge(0, 13).mask != 15 || rollback_portable(16, 5).mask != 2162688) {
+    read = rollback_read(small, 26, table, ROLLBACK_TABLE_LEN, slots, ROLLBACK_SLOTS_LEN,
+                         weights, ROLLBACK_WEIGHTS_LEN);
+    checked = rollback_check(small, 26, table, ROLLBACK_TABLE_LEN, slots, ROLLBACK_SLOTS_LEN,
+                             weights, ROLLBACK_WEIGHTS_LEN);
+    bytes = rollback_assemble(small, 26, run, sizeof run, table, ROLLBACK_TABLE_LEN, slots, ROLLBACK_SLOTS_LEN,
+                              weights, ROLLBACK_WEIGHTS_LEN, plan, ROLLBACK_PLAN_LEN, legs, ROLLBACK_LEGS_LEN);
+    in_structs = rollback_assemble_legs(small, 26, run, sizeof run, table, ROLLBACK_TABLE_LEN, slots,
+                                        ROLLBACK_SLOTS_LEN, weights, ROLLBACK_WEIGHTS_LEN, plan, ROLLBACK_PLAN_LEN,
+                                        structs, ROLLBACK_LEG_STRUCTS_LEN);
+    paged = rollback_page(small, 26, run, sizeof run, table, ROLLBACK_TABLE_LEN, slots, ROLLBACK_SLOTS_LEN,
+                          weights, ROLLBACK_WEIGHTS_LEN, plan, ROLLBACK_PLAN_LEN, legs, ROLLBACK_LEGS_LEN,
+                          page, ROLLBACK_PAGE_LEN);
+    written = rollback_write(1, 1, 0, table, ROLLBACK_TABLE_LEN, slots, ROLLBACK_SLOTS_LEN,
+                             weights, ROLLBACK_WEIGHTS_LEN, book, ROLLBACK_BOOK_LEN);
+    if (read.code != ROLLBACK_E_DONE || read.n != 1 || read.m != 1 || read.items != 0 || weights[0] != 700 ||
+        weights[1] != 0 || checked.code != read.code || bytes.code != ROLLBACK_E_DONE || bytes.sum != 0 ||
+        bytes.fewest[0] != 0 || bytes.fewest[1] != ROLLBACK_NONE || in_structs.code != bytes.code ||
+        paged.assembly.code != bytes.code || paged.assembly.fewest[0] != 0 || paged.length != 0 || page[0] != 0 ||
+        written.code != ROLLBACK_E_DONE || written.length != 26 || memcmp(book, small, 26) != 0 ||
+        rollback_ridge(0, 13).mask != 15 || rollback_portable(16, 5).mask != 2162688) {
         printf("a call gives a wrong answer\n");
         wrong = 1;
     }
@@ -82,17 +95,25 @@ int main(void) {
     expect(rollback_message(ROLLBACK_E_NO_CHAIN), "no items of the book lead from the run's end back to its start");
     expect(rollback_message(ROLLBACK_E_NOT_EFFECTIVE),
            "the item can never be used: its forward commands lead from no start in psi to an end in phi");
-    expect(rollback_message(ROLLBACK_E_NOT_EFFECTIVE + 1), "a code that this header doesn't know");
+    expect(rollback_message(ROLLBACK_E_ALL_ONES), "every weight is 1, as without this record: leave it out");
+    expect(rollback_message(ROLLBACK_E_ALL_ONES + 1), "a code that this header doesn't know");
     expect_record(small, sizeof small, 0, "device", 0);
-    expect_record(small, sizeof small, 6, "move", 0);
-    expect_record(small, sizeof small, 20, "record", 2);
-    expect_record(small, 23, 20, "record", 2);
+    expect_record(small, sizeof small, 6, "weights", 0);
+    expect_record(small, sizeof small, 12, "move", 0);
+    expect_record(small, sizeof small, 26, "record", 3);
+    expect_record(small, 29, 26, "record", 3);
     expect_record(small, 8, 6, "record", 1);
     expect_record(small, 0, 0, "record", 0);
+    expect_record(run, sizeof run, 0, "record", 0);
     table[0] = 2;
-    expect(rollback_write_message(ROLLBACK_E_FIELD, 0, 65, 1, table), "a device has 1 to 64 states and 1 to 32 commands");
-    expect(rollback_write_message(ROLLBACK_E_FIELD, 0, 1, 1, table), "the entry has a state that the device lacks");
-    expect(rollback_write_message(ROLLBACK_E_FIELD, 0, 2, 1, table),
+    expect(rollback_write_message(ROLLBACK_E_FIELD, 0, 65, 1, table, weights),
+           "a device has 1 to 64 states and 1 to 32 commands");
+    expect(rollback_write_message(ROLLBACK_E_FIELD, 0, 1, 1, table, weights),
+           "the entry has a state that the device lacks");
+    expect(rollback_write_message(ROLLBACK_E_FIELD, 0, 2, 1, table, weights),
            "a field of the item is outside its range, or an unused command byte is not 0");
+    weights[0] = 1001;
+    expect(rollback_write_message(ROLLBACK_E_FIELD, 0, 1, 1, table, weights),
+           "the command's weight is outside 1 to 1,000");
     return wrong;
 }

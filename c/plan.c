@@ -22,7 +22,7 @@ static void print_row(const uint8_t *commands, uint64_t count) {
 static void print_refusal(char **names, file book, const rollback_assembly *r) {
     size_t point;
     if ((r->code >= ROLLBACK_E_CUT_OFF && r->code <= ROLLBACK_E_NOT_REVERSE_PLAN) ||
-        r->code == ROLLBACK_E_NOT_EFFECTIVE) {
+        r->code == ROLLBACK_E_NOT_EFFECTIVE || r->code == ROLLBACK_E_ALL_ONES) {
         rollback_record record = rollback_record_at(book.bytes, book.length, r->place);
         fprintf(stderr, "%s: %s %" PRIu64 " (%s%" PRIu64 "): ", names[0], record.name, record.number,
                 strcmp(record.name, "record") == 0 ? "at " : "record at ", r->place);
@@ -55,6 +55,7 @@ static void print_plan(const rollback_assembly *r, const uint8_t *slots, const u
 
 int main(int argc, char **argv) {
     static uint64_t table[ROLLBACK_TABLE_LEN];
+    static uint16_t weights[ROLLBACK_WEIGHTS_LEN];
     static uint8_t slots[ROLLBACK_SLOTS_LEN], plan[ROLLBACK_PLAN_LEN];
     int on_paper = argc > 1 && strcmp(argv[1], "--page") == 0;
     char **names = argv + 1 + on_paper;
@@ -69,15 +70,16 @@ int main(int argc, char **argv) {
     if (on_paper) {
         static uint8_t legs[ROLLBACK_LEGS_LEN], page[ROLLBACK_PAGE_LEN];
         rollback_paged p = rollback_page(book.bytes, book.length, run.bytes, run.length, table, ROLLBACK_TABLE_LEN,
-                                         slots, ROLLBACK_SLOTS_LEN, plan, ROLLBACK_PLAN_LEN,
-                                         legs, ROLLBACK_LEGS_LEN, page, ROLLBACK_PAGE_LEN);
+                                         slots, ROLLBACK_SLOTS_LEN, weights, ROLLBACK_WEIGHTS_LEN,
+                                         plan, ROLLBACK_PLAN_LEN, legs, ROLLBACK_LEGS_LEN,
+                                         page, ROLLBACK_PAGE_LEN);
         r = p.assembly;
         fwrite(page, 1, p.length, stdout);
     } else {
         static rollback_leg legs[ROLLBACK_LEG_STRUCTS_LEN];
         r = rollback_assemble_legs(book.bytes, book.length, run.bytes, run.length, table, ROLLBACK_TABLE_LEN,
-                                   slots, ROLLBACK_SLOTS_LEN, plan, ROLLBACK_PLAN_LEN,
-                                   legs, ROLLBACK_LEG_STRUCTS_LEN);
+                                   slots, ROLLBACK_SLOTS_LEN, weights, ROLLBACK_WEIGHTS_LEN,
+                                   plan, ROLLBACK_PLAN_LEN, legs, ROLLBACK_LEG_STRUCTS_LEN);
         if (r.code == ROLLBACK_E_DONE)
             print_plan(&r, slots, plan, legs);
     }

@@ -15,6 +15,7 @@
 enum { STACK = 1 << 20, GAP = 1 << 16, PAINT = 0xA5 };
 
 static uint64_t table[ROLLBACK_TABLE_LEN];
+static uint16_t weights[ROLLBACK_WEIGHTS_LEN];
 static uint8_t slots[ROLLBACK_SLOTS_LEN], plan[ROLLBACK_PLAN_LEN], legs[ROLLBACK_LEGS_LEN], page[ROLLBACK_PAGE_LEN];
 static uint8_t out[ROLLBACK_BOOK_LEN];
 static rollback_leg structs[ROLLBACK_LEG_STRUCTS_LEN];
@@ -27,38 +28,43 @@ static void nothing(void) {
 }
 
 static void read_book(void) {
-    rollback_reading r = rollback_read(book.bytes, book.length, table, ROLLBACK_TABLE_LEN, slots, ROLLBACK_SLOTS_LEN);
+    rollback_reading r = rollback_read(book.bytes, book.length, table, ROLLBACK_TABLE_LEN, slots, ROLLBACK_SLOTS_LEN,
+                                       weights, ROLLBACK_WEIGHTS_LEN);
     code = r.code;
 }
 
 static void check(void) {
-    rollback_reading r = rollback_check(book.bytes, book.length, table, ROLLBACK_TABLE_LEN, slots, ROLLBACK_SLOTS_LEN);
+    rollback_reading r = rollback_check(book.bytes, book.length, table, ROLLBACK_TABLE_LEN, slots, ROLLBACK_SLOTS_LEN,
+                                        weights, ROLLBACK_WEIGHTS_LEN);
     code = r.code;
 }
 
 static void assemble(void) {
     rollback_assembly r = rollback_assemble(book.bytes, book.length, run.bytes, run.length, table, ROLLBACK_TABLE_LEN,
-                                            slots, ROLLBACK_SLOTS_LEN, plan, ROLLBACK_PLAN_LEN, legs, ROLLBACK_LEGS_LEN);
+                                            slots, ROLLBACK_SLOTS_LEN, weights, ROLLBACK_WEIGHTS_LEN,
+                                            plan, ROLLBACK_PLAN_LEN, legs, ROLLBACK_LEGS_LEN);
     code = r.code;
 }
 
 static void assemble_legs(void) {
     rollback_assembly r =
         rollback_assemble_legs(book.bytes, book.length, run.bytes, run.length, table, ROLLBACK_TABLE_LEN,
-                               slots, ROLLBACK_SLOTS_LEN, plan, ROLLBACK_PLAN_LEN, structs, ROLLBACK_LEG_STRUCTS_LEN);
+                               slots, ROLLBACK_SLOTS_LEN, weights, ROLLBACK_WEIGHTS_LEN, plan, ROLLBACK_PLAN_LEN,
+                               structs, ROLLBACK_LEG_STRUCTS_LEN);
     code = r.code;
 }
 
 static void lay_out(void) {
     rollback_paged r = rollback_page(book.bytes, book.length, run.bytes, run.length, table, ROLLBACK_TABLE_LEN,
-                                     slots, ROLLBACK_SLOTS_LEN, plan, ROLLBACK_PLAN_LEN, legs, ROLLBACK_LEGS_LEN,
-                                     page, ROLLBACK_PAGE_LEN);
+                                     slots, ROLLBACK_SLOTS_LEN, weights, ROLLBACK_WEIGHTS_LEN,
+                                     plan, ROLLBACK_PLAN_LEN, legs, ROLLBACK_LEGS_LEN, page, ROLLBACK_PAGE_LEN);
     code = r.assembly.code;
 }
 
 static void write_book(void) {
     rollback_writing r = rollback_write(device.n, device.m, device.items, table, ROLLBACK_TABLE_LEN,
-                                        slots, ROLLBACK_SLOTS_LEN, out, ROLLBACK_BOOK_LEN);
+                                        slots, ROLLBACK_SLOTS_LEN, weights, ROLLBACK_WEIGHTS_LEN,
+                                        out, ROLLBACK_BOOK_LEN);
     code = r.code;
 }
 
@@ -122,7 +128,8 @@ static size_t deepest[CALLS];
 /* Every call on the book and run at hand. */
 static void measure(uint8_t *stack, size_t empty) {
     size_t used, c;
-    device = rollback_read(book.bytes, book.length, table, ROLLBACK_TABLE_LEN, slots, ROLLBACK_SLOTS_LEN);
+    device = rollback_read(book.bytes, book.length, table, ROLLBACK_TABLE_LEN, slots, ROLLBACK_SLOTS_LEN,
+                           weights, ROLLBACK_WEIGHTS_LEN);
     for (c = 0; c < CALLS; c++) {
         /* Once here first, so that the linker's late binding is not counted. */
         calls[c].f();

@@ -1,15 +1,15 @@
 /*
  * Roll-back plans for repeaters: the calls of libplanner.a.
  *
- * A book holds a device's transition table and its items, a run what was sent and heard. docs/FORMAT.md
- * has the bytes of both; rollback_messages.h turns codes and places into words.
+ * A book holds a device's transition table, its commands' weights and its items, a run what was sent and
+ * heard. docs/FORMAT.md has the bytes of both; rollback_messages.h turns codes and places into words.
  *
  * Proved of the source, for all bytes, numbers and lengths: the answer, and the contents of each buffer
  * afterwards, are those said here. A call asks of its caller, and no proof covers:
  *
  * - every length is true: so many elements are there to be read, and to be written where not const;
  * - a buffer that a call writes overlaps no other of that call, and nobody else uses it meanwhile;
- * - table is aligned as uint64_t is;
+ * - table is aligned as uint64_t is, and weights as uint16_t;
  * - there is as much stack as said below.
  *
  * Nor does a proof cover that this header fits the archive, and that the compiler's back end, the linker,
@@ -30,19 +30,20 @@ extern "C" {
 #endif
 
 /* Of this header; the Rust crate has the same. */
-#define ROLLBACK_VERSION "0.5.0"
+#define ROLLBACK_VERSION "0.6.0"
 #define ROLLBACK_VERSION_MAJOR 0
-#define ROLLBACK_VERSION_MINOR 5
+#define ROLLBACK_VERSION_MINOR 6
 #define ROLLBACK_VERSION_PATCH 0
 
 /* The least lengths of lent buffers, in elements. A shorter one is refused with code 1. */
 #define ROLLBACK_TABLE_LEN 2048     /* uint64_t: outcomes of state s, command c at s * m + c */
 #define ROLLBACK_SLOTS_LEN 2176     /* bytes: 64 slots of 34, see below */
+#define ROLLBACK_WEIGHTS_LEN 32     /* uint16_t: the weight of command c at c */
 #define ROLLBACK_PLAN_LEN 256       /* bytes: a command each */
 #define ROLLBACK_LEGS_LEN 96        /* bytes: 32 legs of 3, item, upper point, lower point */
 #define ROLLBACK_LEG_STRUCTS_LEN 32 /* rollback_leg */
 #define ROLLBACK_PAGE_LEN 1312      /* bytes: 32 lines of 41, see below */
-#define ROLLBACK_BOOK_LEN 31110     /* bytes of the largest book; what writing's output must hold */
+#define ROLLBACK_BOOK_LEN 31178     /* bytes of the largest book; what writing's output must hold */
 
 /* Other lengths. */
 #define ROLLBACK_RUN_LEN 301   /* bytes of the largest run */
@@ -63,7 +64,7 @@ extern "C" {
  * Bytes of stack for a call on x86-64: the most that was measured, over the largest books (docs/SPEED.md),
  * rounded up; no proof has them. c/check.sh measures again and fails above these numbers.
  */
-#define ROLLBACK_READ_STACK 512
+#define ROLLBACK_READ_STACK 1024
 #define ROLLBACK_CHECK_STACK 2048
 #define ROLLBACK_ASSEMBLE_STACK 4096
 #define ROLLBACK_ASSEMBLE_LEGS_STACK 4096
@@ -73,13 +74,13 @@ extern "C" {
 #define ROLLBACK_PORTABLE_STACK 512
 
 /* In fewest: no chain from that point. */
-#define ROLLBACK_NONE 65535
+#define ROLLBACK_NONE 4294967295u
 
 /*
- * The codes. The place is the offset of the faulty record's first byte for 2 to 8 and 12 in a book, and 0
- * for the others; rollback_write has places of its own. The order of judging is 1; then, record by record,
- * 2, 3, 7, 4, 5, 6, the first faulty record deciding; then, item by item, 8 or 12, the first wrong item
- * deciding; then 9, 10, 11.
+ * The codes. The place is the offset of the faulty record's first byte for 2 to 8, 12 and 13 in a book, and
+ * 0 for the others; rollback_write has places of its own. The order of judging is 1; then, record by record,
+ * 2, 3, 7, 4, 5, then 6 or 13, the first faulty record deciding; then, item by item, 8 or 12, the first wrong
+ * item deciding; then 9, 10, 11.
  */
 enum {
     ROLLBACK_E_DONE = 0,
@@ -94,7 +95,8 @@ enum {
     ROLLBACK_E_RUN = 9,              /* the run isn't exactly one record, or a command or mask is outside m or n */
     ROLLBACK_E_NO_HISTORY = 10,      /* nothing can have happened that fits the run */
     ROLLBACK_E_NO_CHAIN = 11,        /* no items lead from the run's end back to its start */
-    ROLLBACK_E_NOT_EFFECTIVE = 12    /* an item can never be used: a conditional reverse plan, but not effective */
+    ROLLBACK_E_NOT_EFFECTIVE = 12,   /* an item can never be used: a conditional reverse plan, but not effective */
+    ROLLBACK_E_ALL_ONES = 13         /* a weights record in which every weight is 1 */
 };
 
 /* From reading and checking: n states, m commands, the number of items; all three 0 on a refusal. */
@@ -103,13 +105,14 @@ typedef struct {
 } rollback_reading;
 
 /*
- * From assembling: the numbers of commands and legs, 0 on a refusal; and for each point of the run the
- * fewest commands that lead from it to point 0, ROLLBACK_NONE where no chain does or the point is past
- * the run's end. On refusals they are all ROLLBACK_NONE, except that code 11 gives them true.
+ * From assembling: the numbers of commands and legs, and the sum of the commands' weights, all 0 on a
+ * refusal; and for each point of the run the least sum of a chain that leads from it to point 0,
+ * ROLLBACK_NONE where no chain does or the point is past the run's end. On refusals they are all
+ * ROLLBACK_NONE, except that code 11 gives them true.
  */
 typedef struct {
-    uint64_t code, place, commands, legs;
-    uint16_t fewest[ROLLBACK_POINTS_LEN];
+    uint64_t code, place, commands, legs, sum;
+    uint32_t fewest[ROLLBACK_POINTS_LEN];
 } rollback_assembly;
 
 /* From the page: what assembling gives, and the length of the page's text in bytes, 0 on a refusal. */
@@ -136,15 +139,18 @@ typedef struct {
 /*
  * Reads a book.
  *
- * Takes the book; lends table and slots. Codes: 0 to 7.
- * 0        table: entries below n * m are the outcomes, 0 where the book has no move; the others stay.
- *          slots: the items, in the book's order; bytes of slots past the last item stay.
- * 1 to 7   both untouched.
+ * Takes the book; lends table, slots and weights. Codes: 0 to 7, 13.
+ * 0           table: entries below n * m are the outcomes, 0 where the book has no move; the others stay.
+ *             slots: the items, in the book's order; bytes of slots past the last item stay.
+ *             weights: the first m are the commands' weights, 1 where the book has no record of them; the
+ *             others stay.
+ * 1 to 7, 13  all untouched.
  */
 rollback_reading rollback_read(
     const uint8_t *book, size_t book_len,
     uint64_t *table, size_t table_len,
-    uint8_t *slots, size_t slots_len);
+    uint8_t *slots, size_t slots_len,
+    uint16_t *weights, size_t weights_len);
 
 /*
  * Reads a book and checks that every item is accepted, that is, a conditional reverse plan (else 8): from
@@ -152,30 +158,34 @@ rollback_reading rollback_read(
  * stuck and always end in that start; and effective (else 12): its forward commands can lead from some
  * start in psi to an end in phi.
  *
- * Takes the book; lends table and slots. Codes: 0 to 8, 12.
- * 0, 8, 12 table and slots as after reading with code 0; with 8 and 12 the three numbers are 0 all the same.
- * 1 to 7   both untouched.
+ * Takes the book; lends table, slots and weights. Codes: 0 to 8, 12, 13.
+ * 0, 8, 12    all three as after reading with code 0; with 8 and 12 the three numbers are 0 all the same.
+ * 1 to 7, 13  all untouched.
  */
 rollback_reading rollback_check(
     const uint8_t *book, size_t book_len,
     uint64_t *table, size_t table_len,
-    uint8_t *slots, size_t slots_len);
+    uint8_t *slots, size_t slots_len,
+    uint16_t *weights, size_t weights_len);
 
 /*
- * Checks a book and assembles from its items the plan that undoes a run: the chain with fewest commands;
- * among equals, the one with the lower item number at the first difference.
+ * Checks a book and assembles from its items the plan that undoes a run: the chain whose commands' weights
+ * have the least sum; among equals, the one with the lower item number at the first difference, whatever
+ * the numbers of commands.
  *
- * Takes book and run; lends table, slots, plan and legs, these as bytes. Codes: 0 to 12.
- * 0        table and slots as after reading; plan: its first `commands` bytes are the commands to send,
- *          in order; legs: its first 3 * `legs` bytes are the legs in that order; the other bytes stay.
- * 1 to 7   all untouched.
- * 8 to 12  table and slots as after reading; plan and legs untouched.
+ * Takes book and run; lends table, slots, weights, plan and legs, these as bytes. Codes: 0 to 13.
+ * 0           table, slots and weights as after reading; plan: its first `commands` bytes are the commands
+ *             to send, in order; legs: its first 3 * `legs` bytes are the legs in that order; the other
+ *             bytes stay.
+ * 1 to 7, 13  all untouched.
+ * 8 to 12     table, slots and weights as after reading; plan and legs untouched.
  */
 rollback_assembly rollback_assemble(
     const uint8_t *book, size_t book_len,
     const uint8_t *run, size_t run_len,
     uint64_t *table, size_t table_len,
     uint8_t *slots, size_t slots_len,
+    uint16_t *weights, size_t weights_len,
     uint8_t *plan, size_t plan_len,
     uint8_t *legs, size_t legs_len);
 
@@ -185,6 +195,7 @@ rollback_assembly rollback_assemble_legs(
     const uint8_t *run, size_t run_len,
     uint64_t *table, size_t table_len,
     uint8_t *slots, size_t slots_len,
+    uint16_t *weights, size_t weights_len,
     uint8_t *plan, size_t plan_len,
     rollback_leg *legs, size_t legs_len);
 
@@ -192,28 +203,31 @@ rollback_assembly rollback_assemble_legs(
  * Assembles the plan and lays it out on a page, a line for each leg. The commands, taken down the page, are
  * the plan.
  *
- * Takes book and run; lends table, slots, plan, legs as bytes, and page. Codes: 0 to 12.
- * 0        table, slots, plan and legs as after assembling; page: its first `length` bytes are one line of
+ * Takes book and run; lends table, slots, weights, plan, legs as bytes, and page. Codes: 0 to 13.
+ * 0        the other buffers as after assembling; page: its first `length` bytes are one line of
  *          ROLLBACK_PAGE_LINE_LEN bytes for each leg, in their order, not NUL-terminated; the others stay.
- * 1 to 12  as assembling; page untouched. A short page is 1 too, before everything else.
+ * 1 to 13  as assembling; page untouched. A short page is 1 too, before everything else.
  */
 rollback_paged rollback_page(
     const uint8_t *book, size_t book_len,
     const uint8_t *run, size_t run_len,
     uint64_t *table, size_t table_len,
     uint8_t *slots, size_t slots_len,
+    uint16_t *weights, size_t weights_len,
     uint8_t *plan, size_t plan_len,
     uint8_t *legs, size_t legs_len,
     uint8_t *page, size_t page_len);
 
 /*
- * Writes the book of a table and slots. It judges the format, not whether items are accepted.
+ * Writes the book of a table, slots and weights. It judges the format, not whether items are accepted.
  *
- * Takes n, m, the number of items, table and slots; lends out. Entries from n * m on and slots past the
- * items are ignored. Codes, in this order:
- * 1, place 0      a buffer is shorter than stated, table and slots too.
+ * Takes n, m, the number of items, table, slots and weights; lends out. Entries from n * m on, slots past
+ * the items and weights from m on are ignored. Where the first m weights are all 1 the book has no record
+ * of them. Codes, in this order:
+ * 1, place 0      a buffer is shorter than stated, table, slots and weights too.
  * 5, place 0      n is outside 1 to 64 or m outside 1 to 32.
  * 7, place 0      over 64 items.
+ * 5, a command    the first one whose weight is outside 1 to 1,000.
  * 5, an index     the first entry with a bit at n or above.
  * 5, a number     the first slot that no item has: k outside 1 to 8, r over 8, a command outside m, a mask
  *                 with a bit at n or above, or an unused command byte that isn't 0.
@@ -224,6 +238,7 @@ rollback_writing rollback_write(
     uint64_t n, uint64_t m, uint64_t items,
     const uint64_t *table, size_t table_len,
     const uint8_t *slots, size_t slots_len,
+    const uint16_t *weights, size_t weights_len,
     uint8_t *out, size_t out_len);
 
 /*

@@ -30,20 +30,23 @@ ROLLBACK_INLINE const char *rollback_message(uint64_t code) {
         "this is not one record of a run, or it has a command or state that the device lacks",
         "nothing that the device can do fits what was sent and heard",
         "no items of the book lead from the run's end back to its start",
-        "the item can never be used: its forward commands lead from no start in psi to an end in phi"};
+        "the item can never be used: its forward commands lead from no start in psi to an end in phi",
+        "every weight is 1, as without this record: leave it out"};
     return code < sizeof messages / sizeof messages[0] ? messages[code] : "a code that this header doesn't know";
 }
 
 /*
- * The same for rollback_write. Its place is an index where the message says entry, a number where it says
- * item. Code 5 says which of the three it is only together with the arguments, so they are needed too:
- * n, m and the table.
+ * The same for rollback_write. Its place is a command where the message says weight, an index where it says
+ * entry, a number where it says item. Code 5 says which of the four it is only together with the arguments,
+ * so they are needed too: n, m, the table and the weights.
  */
 ROLLBACK_INLINE const char *rollback_write_message(
-    uint64_t code, uint64_t place, uint64_t n, uint64_t m, const uint64_t *table) {
+    uint64_t code, uint64_t place, uint64_t n, uint64_t m, const uint64_t *table, const uint16_t *weights) {
     if (code == ROLLBACK_E_FIELD) {
         if (n < 1 || n > 64 || m < 1 || m > 32)
             return "a device has 1 to 64 states and 1 to 32 commands";
+        if (place < m && (weights[place] < 1 || weights[place] > 1000))
+            return "the command's weight is outside 1 to 1,000";
         if (n < 64 && place < n * m && table[place] >> n != 0)
             return "the entry has a state that the device lacks";
         return "a field of the item is outside its range, or an unused command byte is not 0";
@@ -51,7 +54,7 @@ ROLLBACK_INLINE const char *rollback_write_message(
     return rollback_message(code);
 }
 
-/* A record's name: "device", "move" or "item", and how many of that name stand before it. */
+/* A record's name: "device", "move", "item" or "weights", and how many of that name stand before it. */
 typedef struct {
     const char *name;
     uint64_t number;
@@ -62,15 +65,16 @@ typedef struct {
  * there it is a "record", and the number is that of all records before it.
  */
 ROLLBACK_INLINE rollback_record rollback_record_at(const uint8_t *book, size_t book_len, uint64_t place) {
-    static const char *const names[] = {"record", "device", "move", "item"};
-    uint64_t before[4] = {0, 0, 0, 0};
+    /* By kind; 4 is a run, and no record of a book. */
+    static const char *const names[] = {"record", "device", "move", "item", "", "weights"};
+    uint64_t before[6] = {0, 0, 0, 0, 0, 0};
     size_t at = 0, kind = 0;
     rollback_record record;
     for (;;) {
         kind = 0;
         if (book_len - at >= 4) {
             kind = (size_t)book[at + 2] + 256 * (size_t)book[at + 3];
-            if (kind > 3)
+            if (kind > 5 || kind == 4)
                 kind = 0;
         }
         if (at >= place || book_len - at < 4)

@@ -24,6 +24,7 @@ struct Lent {
     run: Vec<u8>,
     table: Vec<u64>,
     slots: Vec<u8>,
+    weights: Vec<u16>,
     plan: Vec<u8>,
     legs: Vec<u8>,
     page: Vec<u8>,
@@ -38,13 +39,15 @@ impl Lent {
     fn new(book: Vec<u8>, run: Vec<u8>) -> Lent {
         let mut table = vec![0; calls::TABLE_LEN];
         let mut slots = vec![0; calls::SLOTS_LEN];
-        let r = calls::check(&book, &mut table, &mut slots);
+        let mut weights = vec![0; calls::WEIGHTS_LEN];
+        let r = calls::check(&book, &mut table, &mut slots, &mut weights);
         assert_eq!(r.code, 0, "the book is accepted");
         Lent {
             book,
             run,
             table,
             slots,
+            weights,
             plan: vec![0; calls::PLAN_LEN],
             legs: vec![0; calls::LEGS_LEN],
             page: vec![0; calls::PAGE_LEN],
@@ -65,54 +68,60 @@ struct Pair {
 
 const CHECK: Pair = Pair {
     name: "check",
-    verified: |l| calls::check(&l.book, &mut l.table, &mut l.slots).code,
-    plain: |l| rollback_plain::check(&l.book, &mut l.table, &mut l.slots).code,
+    verified: |l| calls::check(&l.book, &mut l.table, &mut l.slots, &mut l.weights).code,
+    plain: |l| rollback_plain::check(&l.book, &mut l.table, &mut l.slots, &mut l.weights).code,
 };
 
 #[rustfmt::skip]
 const PAIRS: [Pair; 6] = [
     Pair {
         name: "read",
-        verified: |l| calls::read(&l.book, &mut l.table, &mut l.slots).code,
-        plain: |l| rollback_plain::read(&l.book, &mut l.table, &mut l.slots).code,
+        verified: |l| calls::read(&l.book, &mut l.table, &mut l.slots, &mut l.weights).code,
+        plain: |l| rollback_plain::read(&l.book, &mut l.table, &mut l.slots, &mut l.weights).code,
     },
     CHECK,
     Pair {
         name: "assemble",
         verified: |l| calls::assemble(
-            &l.book, &l.run, &mut l.table, &mut l.slots, &mut l.plan, &mut l.legs,
+            &l.book, &l.run, &mut l.table, &mut l.slots, &mut l.weights,
+            &mut l.plan, &mut l.legs,
         ).code,
         plain: |l| rollback_plain::assemble(
-            &l.book, &l.run, &mut l.table, &mut l.slots, &mut l.plan, &mut l.legs,
+            &l.book, &l.run, &mut l.table, &mut l.slots, &mut l.weights,
+            &mut l.plan, &mut l.legs,
         ).code,
     },
     Pair {
         name: "assemble_legs",
         verified: |l| calls::assemble_legs(
-            &l.book, &l.run, &mut l.table, &mut l.slots, &mut l.plan, &mut l.structs,
+            &l.book, &l.run, &mut l.table, &mut l.slots, &mut l.weights,
+            &mut l.plan, &mut l.structs,
         ).code,
         plain: |l| rollback_plain::assemble_legs(
-            &l.book, &l.run, &mut l.table, &mut l.slots, &mut l.plan, &mut l.plain_structs,
+            &l.book, &l.run, &mut l.table, &mut l.slots, &mut l.weights,
+            &mut l.plan, &mut l.plain_structs,
         ).code,
     },
     Pair {
         name: "page",
         verified: |l| calls::page(
-            &l.book, &l.run, &mut l.table, &mut l.slots, &mut l.plan, &mut l.legs, &mut l.page,
+            &l.book, &l.run, &mut l.table, &mut l.slots, &mut l.weights,
+            &mut l.plan, &mut l.legs, &mut l.page,
         ).assembly.code,
         plain: |l| rollback_plain::page(
-            &l.book, &l.run, &mut l.table, &mut l.slots, &mut l.plan, &mut l.legs, &mut l.page,
+            &l.book, &l.run, &mut l.table, &mut l.slots, &mut l.weights,
+            &mut l.plan, &mut l.legs, &mut l.page,
         ).assembly.code,
     },
     Pair {
         name: "write",
         verified: |l| {
             let [n, m, items] = l.device;
-            calls::write(n, m, items, &l.table, &l.slots, &mut l.out).code
+            calls::write(n, m, items, &l.table, &l.slots, &l.weights, &mut l.out).code
         },
         plain: |l| {
             let [n, m, items] = l.device;
-            rollback_plain::write(n, m, items, &l.table, &l.slots, &mut l.out).code
+            rollback_plain::write(n, m, items, &l.table, &l.slots, &l.weights, &mut l.out).code
         },
     },
 ];

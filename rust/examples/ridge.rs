@@ -1,8 +1,8 @@
 //! A book for the ridge repeater, from its first mistake to a plan: ridge [FOLDER]
 //!
-//! Writes a book of five items, one of them wrong; prints the refusal; repairs the item; assembles
-//! the plan that undoes a run. With FOLDER, leaves there the book and the run as the program takes
-//! them (`book.bin`, `run.bin`), and the book before its repair (`wrong.bin`).
+//! Writes a book of five items, one of them wrong, and the commands' weights; prints the refusal;
+//! repairs the item; assembles the plan that undoes a run. With FOLDER, leaves there the book and the
+//! run as the program takes them (`book.bin`, `run.bin`), and the book before its repair (`wrong.bin`).
 //!
 //! A state is channel + 4 × power + 16 × mode, each 0 to 3; the modes are standby, relay, beacon,
 //! locked. docs/FORMAT.md has the sixteen commands.
@@ -17,6 +17,8 @@ const STATES: u64 = 64;
 const COMMANDS: u64 = 16;
 const ALL: u64 = u64::MAX;
 const MODES: [&str; 4] = ["standby", "relay", "beacon", "locked"];
+/// Setting a channel takes far more air than setting power.
+const WEIGHTS: [u16; 16] = [40, 40, 40, 40, 5, 5, 5, 5, 10, 10, 10, 10, 10, 40, 5, 5];
 
 /// The states with a mode.
 fn mode(mode: u64) -> u64 {
@@ -67,7 +69,7 @@ fn book(items: &[(Item, &str)]) -> Result<Vec<u8>, Box<dyn Error>> {
         }
     }
     let items: Vec<Item> = items.iter().map(|&(item, _)| item).collect();
-    Ok(rollback::write(64, 16, &outcomes, &items)?)
+    Ok(rollback::write(64, 16, &outcomes, &items, &WEIGHTS)?)
 }
 
 fn print_item(number: usize, (item, from): &(Item, &str)) {
@@ -90,6 +92,9 @@ fn main() -> Result<(), Box<dyn Error>> {
         (item(&[11], &[12, 9], mode(1)), "relay"),
     ];
     println!("The book: the ridge repeater, {STATES} states, {COMMANDS} commands, five items");
+    println!(
+        "  weights: 40 for a channel (0 to 3, 13), 5 for power (4 to 7, 14, 15), 10 for the others"
+    );
     for (number, item) in items.iter().enumerate() {
         print_item(number, item);
     }
@@ -115,8 +120,9 @@ fn main() -> Result<(), Box<dyn Error>> {
         println!("  point {}: {}", i + 1, heard(sightings[i + 1]));
     }
     let run = rollback::run(&sent, &sightings);
-    println!("The plan:");
-    for line in right.plan(&run)?.to_string().lines() {
+    let plan = right.plan(&run)?;
+    println!("The plan, of air time {}:", plan.sum());
+    for line in plan.to_string().lines() {
         println!("  {line}");
     }
 

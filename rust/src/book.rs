@@ -51,8 +51,11 @@ impl Item<'_> {
     }
 }
 
-/// A book that was read: what the device's commands do in its states, and the items. Whether these
-/// are accepted is not known: see [`CheckedBook`].
+/// Reading or checking.
+type Call = fn(&[u8], &mut [u64], &mut [u8], &mut [u16]) -> Reading;
+
+/// A book that was read: what the device's commands do in its states, what they weigh, and the
+/// items. Whether these are accepted is not known: see [`CheckedBook`].
 #[derive(Clone, Debug, PartialEq, Eq)]
 pub struct Book {
     bytes: Vec<u8>,
@@ -61,13 +64,14 @@ pub struct Book {
     items: usize,
     table: Vec<u64>,
     slots: Vec<u8>,
+    weights: Vec<u16>,
 }
 
 impl Book {
     /// Reads a book. Its items are not judged.
     ///
     /// # Errors
-    /// Codes 2 to 7: the bytes are no book.
+    /// Codes 2 to 7 and 13: the bytes are no book.
     pub fn read(bytes: &[u8]) -> Result<Book, Fault> {
         Book::by(calls::read, bytes)
     }
@@ -77,7 +81,7 @@ impl Book {
     /// is such a start with such an end.
     ///
     /// # Errors
-    /// Codes 2 to 7: the bytes are no book. Codes 8 and 12: an item is not accepted.
+    /// Codes 2 to 7 and 13: the bytes are no book. Codes 8 and 12: an item is not accepted.
     ///
     /// ```
     /// use rollback::{Book, Fault};
@@ -92,10 +96,11 @@ impl Book {
         Book::by(calls::check, bytes).map(CheckedBook)
     }
 
-    fn by(call: fn(&[u8], &mut [u64], &mut [u8]) -> Reading, bytes: &[u8]) -> Result<Book, Fault> {
+    fn by(call: Call, bytes: &[u8]) -> Result<Book, Fault> {
         let mut table = vec![0; calls::TABLE_LEN];
         let mut slots = vec![0; calls::SLOTS_LEN];
-        let r = call(bytes, &mut table, &mut slots);
+        let mut weights = vec![0; calls::WEIGHTS_LEN];
+        let r = call(bytes, &mut table, &mut slots, &mut weights);
         if r.code != 0 {
             return Err(Fault::new(
                 r.code,
@@ -104,6 +109,7 @@ impl Book {
                 bytes,
             ));
         }
+        weights.truncate(size(r.m));
         Ok(Book {
             bytes: bytes.to_vec(),
             n: size(r.n),
@@ -111,6 +117,7 @@ impl Book {
             items: size(r.items),
             table,
             slots,
+            weights,
         })
     }
 
@@ -135,6 +142,12 @@ impl Book {
         } else {
             None
         }
+    }
+
+    /// The weight of each command, 1 to 1,000; all 1 where the book has no record of them.
+    #[must_use]
+    pub fn weights(&self) -> &[u16] {
+        &self.weights
     }
 
     /// The items, in the book's order.
@@ -174,27 +187,36 @@ impl Deref for CheckedBook {
     }
 }
 
-/// Writes a book: n states, m commands, the outcomes of state s and command c at s × m + c, items.
+/// Writes a book: n states, m commands, the outcomes of state s and command c at s × m + c, items,
+/// the weight of command c at c.
 ///
-/// Outcomes not given are empty sets, those from n × m on are ignored. Whether items are accepted
-/// is not judged: see [`Book::check`].
+/// Outcomes not given are empty sets, those from n × m on are ignored; weights not given are 1,
+/// those from m on are ignored. Whether items are accepted is not judged: see [`Book::check`].
 ///
 /// # Errors
-/// n, m, an outcome or an item is outside the limits of a book.
+/// n, m, a weight, an outcome or an item is outside the limits of a book.
 ///
 /// ```
 /// use rollback::{Book, Item, WriteFault};
 ///
 /// let item = Item { forward: &[0], reverse: &[], phi: 1, psi: 1 };
-/// let bytes = rollback::write(1, 1, &[1], &[item])?;
-/// assert_eq!(Book::read(&bytes)?.items().next(), Some(item));
+/// let book = Book::read(&rollback::write(1, 2, &[1], &[item], &[40])?)?;
+/// assert_eq!(book.items().next(), Some(item));
+/// assert_eq!(book.weights(), [40, 1]);
 /// let fault = WriteFault::Outcomes { state: 0, command: 0 };
-/// assert_eq!(rollback::write(1, 1, &[2], &[]), Err(fault));
+/// assert_eq!(rollback::write(1, 1, &[2], &[], &[]), Err(fault));
 /// # Ok::<(), Box<dyn std::error::Error>>(())
 /// ```
-pub fn write(n: usize, m: usize, outcomes: &[u64], items: &[Item]) -> Result<Vec<u8>, WriteFault> {
+pub fn write(
+    n: usize,
+    m: usize,
+    outcomes: &[u64],
+    items: &[Item],
+    weights: &[u16],
+) -> Result<Vec<u8>, WriteFault> {
     let mut table = vec![0; calls::TABLE_LEN];
     let mut slots = vec![0; calls::SLOTS_LEN];
+    let mut all_weights = vec![1; calls::WEIGHTS_LEN];
     let mut out = vec![0; calls::BOOK_LEN];
     for (to, from) in table.iter_mut().zip(outcomes) {
         *to = *from;
@@ -202,10 +224,13 @@ pub fn write(n: usize, m: usize, outcomes: &[u64], items: &[Item]) -> Result<Vec
     for (to, from) in slots.chunks_exact_mut(calls::SLOT_LEN).zip(items) {
         to.copy_from_slice(&from.slot());
     }
-    let (n, m) = (n as u64, m as u64);
-    let r = calls::write(n, m, items.len() as u64, &table, &slots, &mut out);
+    for (to, from) in all_weights.iter_mut().zip(weights) {
+        *to = *from;
+    }
+    let (n, m, items) = (n as u64, m as u64, items.len() as u64);
+    let r = calls::write(n, m, items, &table, &slots, &all_weights, &mut out);
     if r.code != 0 {
-        return Err(WriteFault::new(r.code, r.place, n, m, &table));
+        return Err(WriteFault::new(r.code, r.place, n, m, &table, &all_weights));
     }
     out.truncate(size(r.length));
     Ok(out)

@@ -12,6 +12,8 @@ pub const TABLE_LEN: usize = 2_048;
 pub const SLOTS_LEN: usize = 2_176;
 /// Bytes of a slot.
 pub const SLOT_LEN: usize = 34;
+/// Elements of lent weights.
+pub const WEIGHTS_LEN: usize = 32;
 /// Bytes of a lent plan.
 pub const PLAN_LEN: usize = 256;
 /// Bytes of lent legs.
@@ -23,7 +25,7 @@ pub const PAGE_LEN: usize = 1_312;
 /// Bytes of a line of a page, its newline included.
 pub const PAGE_LINE_LEN: usize = 41;
 /// Bytes of the largest book, and of writing's output.
-pub const BOOK_LEN: usize = 31_110;
+pub const BOOK_LEN: usize = 31_178;
 /// Bytes of the largest run.
 pub const RUN_LEN: usize = 301;
 /// Points of the largest run.
@@ -57,8 +59,10 @@ pub struct Assembly {
     pub commands: u64,
     /// Legs of the plan.
     pub legs: u64,
-    /// The fewest commands from each point down to 0, or [`NONE`](crate::NONE).
-    pub fewest: [u16; POINTS_LEN],
+    /// The sum of the weights of the plan's commands.
+    pub sum: u64,
+    /// The least sum of a chain from each point down to 0, or [`NONE`](crate::NONE).
+    pub fewest: [u32; POINTS_LEN],
 }
 
 /// What the page answers.
@@ -127,17 +131,20 @@ mod sys {
             book: *const u8, book_len: usize,
             table: *mut u64, table_len: usize,
             slots: *mut u8, slots_len: usize,
+            weights: *mut u16, weights_len: usize,
         ) -> Reading;
         pub fn rollback_check(
             book: *const u8, book_len: usize,
             table: *mut u64, table_len: usize,
             slots: *mut u8, slots_len: usize,
+            weights: *mut u16, weights_len: usize,
         ) -> Reading;
         pub fn rollback_assemble(
             book: *const u8, book_len: usize,
             run: *const u8, run_len: usize,
             table: *mut u64, table_len: usize,
             slots: *mut u8, slots_len: usize,
+            weights: *mut u16, weights_len: usize,
             plan: *mut u8, plan_len: usize,
             legs: *mut u8, legs_len: usize,
         ) -> Assembly;
@@ -146,6 +153,7 @@ mod sys {
             run: *const u8, run_len: usize,
             table: *mut u64, table_len: usize,
             slots: *mut u8, slots_len: usize,
+            weights: *mut u16, weights_len: usize,
             plan: *mut u8, plan_len: usize,
             legs: *mut Leg, legs_len: usize,
         ) -> Assembly;
@@ -154,6 +162,7 @@ mod sys {
             run: *const u8, run_len: usize,
             table: *mut u64, table_len: usize,
             slots: *mut u8, slots_len: usize,
+            weights: *mut u16, weights_len: usize,
             plan: *mut u8, plan_len: usize,
             legs: *mut u8, legs_len: usize,
             page: *mut u8, page_len: usize,
@@ -162,6 +171,7 @@ mod sys {
             n: u64, m: u64, items: u64,
             table: *const u64, table_len: usize,
             slots: *const u8, slots_len: usize,
+            weights: *const u16, weights_len: usize,
             out: *mut u8, out_len: usize,
         ) -> Writing;
         pub fn rollback_ridge(state: u64, command: u64) -> Lookup;
@@ -170,36 +180,38 @@ mod sys {
 }
 
 // SAFETY, of every call below: the header asks for true lengths, for written buffers that overlap
-// nothing and that nobody else uses meanwhile, and for an aligned table. Slices have all of it by
-// their types. Every bit pattern is a value of each result and of Leg.
+// nothing and that nobody else uses meanwhile, and for aligned table and weights. Slices have all of
+// it by their types. Every bit pattern is a value of each result and of Leg.
 
-/// Reads a book. Codes 0 to 7.
+/// Reads a book. Codes 0 to 7, 13.
 #[must_use]
 #[rustfmt::skip]
-pub fn read(book: &[u8], table: &mut [u64], slots: &mut [u8]) -> Reading {
+pub fn read(book: &[u8], table: &mut [u64], slots: &mut [u8], weights: &mut [u16]) -> Reading {
     unsafe {
         sys::rollback_read(
             book.as_ptr(), book.len(),
             table.as_mut_ptr(), table.len(),
             slots.as_mut_ptr(), slots.len(),
+            weights.as_mut_ptr(), weights.len(),
         )
     }
 }
 
-/// Reads a book and checks its items. Codes 0 to 8, 12.
+/// Reads a book and checks its items. Codes 0 to 8, 12, 13.
 #[must_use]
 #[rustfmt::skip]
-pub fn check(book: &[u8], table: &mut [u64], slots: &mut [u8]) -> Reading {
+pub fn check(book: &[u8], table: &mut [u64], slots: &mut [u8], weights: &mut [u16]) -> Reading {
     unsafe {
         sys::rollback_check(
             book.as_ptr(), book.len(),
             table.as_mut_ptr(), table.len(),
             slots.as_mut_ptr(), slots.len(),
+            weights.as_mut_ptr(), weights.len(),
         )
     }
 }
 
-/// Checks a book and assembles the plan that undoes a run, its legs as bytes. Codes 0 to 12.
+/// Checks a book and assembles the plan that undoes a run, its legs as bytes. Codes 0 to 13.
 #[must_use]
 #[rustfmt::skip]
 pub fn assemble(
@@ -207,6 +219,7 @@ pub fn assemble(
     run: &[u8],
     table: &mut [u64],
     slots: &mut [u8],
+    weights: &mut [u16],
     plan: &mut [u8],
     legs: &mut [u8],
 ) -> Assembly {
@@ -216,6 +229,7 @@ pub fn assemble(
             run.as_ptr(), run.len(),
             table.as_mut_ptr(), table.len(),
             slots.as_mut_ptr(), slots.len(),
+            weights.as_mut_ptr(), weights.len(),
             plan.as_mut_ptr(), plan.len(),
             legs.as_mut_ptr(), legs.len(),
         )
@@ -230,6 +244,7 @@ pub fn assemble_legs(
     run: &[u8],
     table: &mut [u64],
     slots: &mut [u8],
+    weights: &mut [u16],
     plan: &mut [u8],
     legs: &mut [Leg],
 ) -> Assembly {
@@ -239,20 +254,23 @@ pub fn assemble_legs(
             run.as_ptr(), run.len(),
             table.as_mut_ptr(), table.len(),
             slots.as_mut_ptr(), slots.len(),
+            weights.as_mut_ptr(), weights.len(),
             plan.as_mut_ptr(), plan.len(),
             legs.as_mut_ptr(), legs.len(),
         )
     }
 }
 
-/// [`assemble`], and the plan on paper: a line for each leg, which [`Paged::text`] gives. Codes 0 to 12.
+/// [`assemble`], and the plan on paper: a line for each leg, which [`Paged::text`] gives. Codes 0 to 13.
 #[must_use]
+#[allow(clippy::too_many_arguments)] // those of the header
 #[rustfmt::skip]
 pub fn page(
     book: &[u8],
     run: &[u8],
     table: &mut [u64],
     slots: &mut [u8],
+    weights: &mut [u16],
     plan: &mut [u8],
     legs: &mut [u8],
     page: &mut [u8],
@@ -263,6 +281,7 @@ pub fn page(
             run.as_ptr(), run.len(),
             table.as_mut_ptr(), table.len(),
             slots.as_mut_ptr(), slots.len(),
+            weights.as_mut_ptr(), weights.len(),
             plan.as_mut_ptr(), plan.len(),
             legs.as_mut_ptr(), legs.len(),
             page.as_mut_ptr(), page.len(),
@@ -270,15 +289,24 @@ pub fn page(
     }
 }
 
-/// Writes the book of a table and slots. Codes 0, 1, 5, 7.
+/// Writes the book of a table, slots and weights. Codes 0, 1, 5, 7.
 #[must_use]
 #[rustfmt::skip]
-pub fn write(n: u64, m: u64, items: u64, table: &[u64], slots: &[u8], out: &mut [u8]) -> Writing {
+pub fn write(
+    n: u64,
+    m: u64,
+    items: u64,
+    table: &[u64],
+    slots: &[u8],
+    weights: &[u16],
+    out: &mut [u8],
+) -> Writing {
     unsafe {
         sys::rollback_write(
             n, m, items,
             table.as_ptr(), table.len(),
             slots.as_ptr(), slots.len(),
+            weights.as_ptr(), weights.len(),
             out.as_mut_ptr(), out.len(),
         )
     }

@@ -4,7 +4,7 @@ use core::fmt;
 use crate::calls::POINTS_LEN;
 use crate::{record_at, Record, NONE};
 
-/// Why a book or a run was refused: a variant for each code, in order, from 1 to 12.
+/// Why a book or a run was refused: a variant for each code, in order, from 1 to 13.
 ///
 /// Printed, it says where and what: `item 1 (record at 129): a field is outside its range (code 5)`.
 #[derive(Clone, Copy, Debug, PartialEq, Eq)]
@@ -32,11 +32,13 @@ pub enum Fault {
     NoHistory,
     /// 11: no items lead from the run's end back to its start.
     NoChain {
-        /// The fewest commands from each point down to 0, or [`NONE`].
-        fewest: [u16; POINTS_LEN],
+        /// The least sum of a chain from each point down to 0, or [`NONE`].
+        fewest: [u32; POINTS_LEN],
     },
     /// 12: an item is a conditional reverse plan, but not effective; the first wrong one.
     NotEffective(Record),
+    /// 13: a weights record in which every weight is 1.
+    AllOnes(Record),
     /// A code that this crate doesn't know: the archive is another version's.
     Unknown {
         /// The code.
@@ -47,10 +49,10 @@ pub enum Fault {
 }
 
 impl Fault {
-    /// The fault of an answer to `book` with this code and place, which are not 0. `fewest` counts
+    /// The fault of an answer to `book` with this code, which is not 0, and place. `fewest` counts
     /// for 11 only.
     #[must_use]
-    pub fn new(code: u64, place: u64, fewest: [u16; POINTS_LEN], book: &[u8]) -> Fault {
+    pub fn new(code: u64, place: u64, fewest: [u32; POINTS_LEN], book: &[u8]) -> Fault {
         let record = || record_at(book, usize::try_from(place).unwrap_or(usize::MAX));
         match code {
             1 => Fault::ShortBuffer,
@@ -65,6 +67,7 @@ impl Fault {
             10 => Fault::NoHistory,
             11 => Fault::NoChain { fewest },
             12 => Fault::NotEffective(record()),
+            13 => Fault::AllOnes(record()),
             _ => Fault::Unknown { code, place },
         }
     }
@@ -85,6 +88,7 @@ impl Fault {
             Fault::NoHistory => 10,
             Fault::NoChain { .. } => 11,
             Fault::NotEffective(_) => 12,
+            Fault::AllOnes(_) => 13,
             Fault::Unknown { code, .. } => code,
         }
     }
@@ -100,7 +104,8 @@ impl Fault {
             | Fault::NotRising(record)
             | Fault::TooManyItems(record)
             | Fault::NotReversePlan(record)
-            | Fault::NotEffective(record) => Some(record),
+            | Fault::NotEffective(record)
+            | Fault::AllOnes(record) => Some(record),
             _ => None,
         }
     }
@@ -133,6 +138,7 @@ impl fmt::Display for Fault {
             Fault::NotEffective(_) => {
                 "the item can never be used: its forward commands lead from no start in psi to an end in phi"
             }
+            Fault::AllOnes(_) => "every weight is 1, as without this record: leave it out",
             Fault::Unknown { .. } => "a code that this crate doesn't know",
         };
         write!(f, "{text} (code {})", self.code())?;
@@ -162,6 +168,11 @@ pub enum WriteFault {
     Device,
     /// 7: over 64 items.
     TooManyItems,
+    /// 5: this command's weight is outside 1 to 1,000. The first such one.
+    Weight {
+        /// The command.
+        command: u64,
+    },
     /// 5: a state among these outcomes is not the device's. The first such ones.
     Outcomes {
         /// The state.
@@ -184,14 +195,27 @@ pub enum WriteFault {
 }
 
 impl WriteFault {
-    /// The fault of writing's answer with this code and place, the code not 0. Which of its three
-    /// meanings code 5 has, the arguments tell: entries are judged before items.
+    /// The fault of writing's answer with this code and place, the code not 0. Which of its four
+    /// meanings code 5 has, the arguments tell: weights are judged before entries, and these before
+    /// items.
     #[must_use]
-    pub fn new(code: u64, place: u64, n: u64, m: u64, table: &[u64]) -> WriteFault {
-        let entry = usize::try_from(place).ok().and_then(|at| table.get(at));
+    pub fn new(
+        code: u64,
+        place: u64,
+        n: u64,
+        m: u64,
+        table: &[u64],
+        weights: &[u16],
+    ) -> WriteFault {
+        let at = usize::try_from(place).ok();
+        let weight = at.and_then(|at| weights.get(at));
+        let entry = at.and_then(|at| table.get(at));
         match code {
             1 => WriteFault::ShortBuffer,
             5 if !(1..=64).contains(&n) || !(1..=32).contains(&m) => WriteFault::Device,
+            5 if place < m && weight.is_some_and(|weight| !(1..=1000).contains(weight)) => {
+                WriteFault::Weight { command: place }
+            }
             5 if n < 64 && place < n * m && entry.is_some_and(|mask| mask >> n != 0) => {
                 WriteFault::Outcomes {
                     state: place / m,
@@ -209,7 +233,10 @@ impl WriteFault {
     pub fn code(&self) -> u64 {
         match *self {
             WriteFault::ShortBuffer => 1,
-            WriteFault::Device | WriteFault::Outcomes { .. } | WriteFault::Item { .. } => 5,
+            WriteFault::Device
+            | WriteFault::Weight { .. }
+            | WriteFault::Outcomes { .. }
+            | WriteFault::Item { .. } => 5,
             WriteFault::TooManyItems => 7,
             WriteFault::Unknown { code, .. } => code,
         }
@@ -222,6 +249,9 @@ impl fmt::Display for WriteFault {
             WriteFault::ShortBuffer => write!(f, "a lent buffer is shorter than stated"),
             WriteFault::Device => write!(f, "a device has 1 to 64 states and 1 to 32 commands"),
             WriteFault::TooManyItems => write!(f, "a book has at most 64 items"),
+            WriteFault::Weight { command } => {
+                write!(f, "command {command}: its weight is outside 1 to 1,000")
+            }
             WriteFault::Outcomes { state, command } => {
                 write!(
                     f,

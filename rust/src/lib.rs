@@ -1,8 +1,9 @@
 //! Roll-back plans for repeaters.
 //!
-//! A book holds a device's transition table and its items ("if these commands were sent, send
-//! those, provided the states before and after lie in these sets"). A run holds what was sent and
-//! heard. [`plan`] checks a book and assembles from its items the shortest chain that undoes a run.
+//! A book holds a device's transition table, its commands' weights (the air time that each takes)
+//! and its items ("if these commands were sent, send those, provided the states before and after lie
+//! in these sets"). A run holds what was sent and heard. [`plan`] checks a book and assembles from
+//! its items the chain that undoes a run with the least sum of weights.
 //!
 //! All judging and planning is done by `libplanner.a`, whose answers are proved; this crate lends it
 //! buffers and gives its answers types. [`calls`] has the calls themselves, of numbers and slices.
@@ -17,12 +18,13 @@
 //! // A switch: command 0 turns it off, command 1 on. "Off" undoes "on" if it was off before.
 //! let outcomes = [0b01, 0b10, 0b01, 0b10];
 //! let item = rollback::Item { forward: &[1], reverse: &[0], phi: 0b11, psi: 0b01 };
-//! let book = rollback::write(2, 2, &outcomes, &[item])?;
+//! let book = rollback::write(2, 2, &outcomes, &[item], &[5, 3])?;
 //!
 //! // It was seen off, then command 1 was sent, then nothing was heard.
 //! let run = rollback::run(&[1], &[0b01, 0b11]);
 //! let plan = rollback::plan(&book, &run)?;
 //! assert_eq!(plan.commands(), [0]);
+//! assert_eq!(plan.sum(), 5);
 //! assert_eq!(plan.to_string(), "send 0\nitem 0 from point 1 to 0: 0\n");
 //! assert_eq!(plan.page(), "  1  1  0   0  1  0                     \n");
 //!
@@ -35,6 +37,7 @@
 #![deny(missing_docs)]
 #![deny(unsafe_code)]
 #![warn(clippy::pedantic)]
+#![allow(clippy::result_large_err)] // 33 numbers in a fault; `core` has no box for them
 
 #[cfg(feature = "std")]
 extern crate std;
@@ -56,7 +59,7 @@ pub use plan::{plan, run, Plan};
 pub use record::{record_at, Kind, Record};
 
 /// In the 33 numbers of [`Assembly::fewest`](calls::Assembly::fewest) and [`Fault::NoChain`]: no chain from that point.
-pub const NONE: u16 = 65_535;
+pub const NONE: u32 = 4_294_967_295;
 
 /// The outcomes of a command of the ridge repeater in a state. None for a state over 63 or a
 /// command over 15.

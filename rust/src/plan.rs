@@ -19,8 +19,9 @@ pub struct Plan {
     legs: Vec<Leg>,
     /// The number of commands of each leg.
     counts: Vec<usize>,
+    sum: u64,
     page: String,
-    fewest: [u16; calls::POINTS_LEN],
+    fewest: [u32; calls::POINTS_LEN],
 }
 
 impl Plan {
@@ -49,6 +50,12 @@ impl Plan {
             })
     }
 
+    /// The sum of the commands' weights: the plan's air time. No chain that undoes the run has less.
+    #[must_use]
+    pub fn sum(&self) -> u64 {
+        self.sum
+    }
+
     /// The plan on paper, laid out by the library: a line of 40 characters and a newline for each
     /// leg. Right-aligned in each are the leg's number from 1 (3 wide), its upper point (3), lower
     /// point (3), item (4), number of commands (3) and up to 8 commands (3 each); the rest is blank.
@@ -62,10 +69,10 @@ impl Plan {
         &self.page
     }
 
-    /// The fewest commands from each point down to 0; [`NONE`](crate::NONE) where no chain exists
+    /// The least sum of a chain from each point down to 0; [`NONE`](crate::NONE) where no chain exists
     /// or the point is past the run's end.
     #[must_use]
-    pub fn fewest(&self) -> &[u16; calls::POINTS_LEN] {
+    pub fn fewest(&self) -> &[u32; calls::POINTS_LEN] {
         &self.fewest
     }
 }
@@ -94,15 +101,17 @@ impl fmt::Display for Plan {
     }
 }
 
-/// Checks a book and assembles from its items the plan that undoes a run: the chain with fewest
-/// commands; among equals, the one with the lower item number at the first difference.
+/// Checks a book and assembles from its items the plan that undoes a run: the chain whose commands'
+/// weights have the least sum; among equals, the one with the lower item number at the first
+/// difference.
 ///
 /// # Errors
-/// Codes 2 to 8 and 12: the book is refused. Codes 9 to 11: the bytes are no run of its device, or
-/// nothing in the book undoes it.
+/// Codes 2 to 8, 12 and 13: the book is refused. Codes 9 to 11: the bytes are no run of its device,
+/// or nothing in the book undoes it.
 pub fn plan(book: &[u8], run: &[u8]) -> Result<Plan, Fault> {
     let mut table = vec![0; calls::TABLE_LEN];
     let mut slots = vec![0; calls::SLOTS_LEN];
+    let mut weights = vec![0; calls::WEIGHTS_LEN];
     let mut commands = vec![0; calls::PLAN_LEN];
     let mut legs = vec![0; calls::LEGS_LEN];
     let mut page = vec![0; calls::PAGE_LEN];
@@ -111,6 +120,7 @@ pub fn plan(book: &[u8], run: &[u8]) -> Result<Plan, Fault> {
         run,
         &mut table,
         &mut slots,
+        &mut weights,
         &mut commands,
         &mut legs,
         &mut page,
@@ -138,6 +148,7 @@ pub fn plan(book: &[u8], run: &[u8]) -> Result<Plan, Fault> {
         commands,
         legs,
         counts,
+        sum: r.sum,
         page: paged.text(&page).unwrap_or_default().into(),
         fewest: r.fewest,
     })

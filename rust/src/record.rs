@@ -2,6 +2,7 @@ use core::fmt;
 
 /// What a record is, as far as its header says.
 #[derive(Clone, Copy, Debug, PartialEq, Eq)]
+#[non_exhaustive]
 pub enum Kind {
     /// Kind 1: the numbers of states and commands.
     Device,
@@ -9,6 +10,8 @@ pub enum Kind {
     Move,
     /// Kind 3: an item.
     Item,
+    /// Kind 5: the commands' weights.
+    Weights,
     /// Another kind, or no kind is there.
     Unknown,
 }
@@ -32,7 +35,7 @@ pub struct Record {
 /// ```
 #[must_use]
 pub fn record_at(book: &[u8], place: usize) -> Record {
-    let (mut devices, mut moves, mut items, mut records) = (0, 0, 0, 0);
+    let (mut devices, mut moves, mut items, mut weights, mut records) = (0, 0, 0, 0, 0);
     let mut rest = book;
     loop {
         let header = rest.first_chunk::<4>().copied();
@@ -40,6 +43,7 @@ pub fn record_at(book: &[u8], place: usize) -> Record {
             Some([_, _, 1, 0]) => (Kind::Device, &mut devices),
             Some([_, _, 2, 0]) => (Kind::Move, &mut moves),
             Some([_, _, 3, 0]) => (Kind::Item, &mut items),
+            Some([_, _, 5, 0]) => (Kind::Weights, &mut weights),
             _ => (Kind::Unknown, &mut records),
         };
         let passed = book.len() - rest.len();
@@ -66,6 +70,7 @@ impl fmt::Display for Record {
             Kind::Device => write!(f, "device {number} (record at {place})"),
             Kind::Move => write!(f, "move {number} (record at {place})"),
             Kind::Item => write!(f, "item {number} (record at {place})"),
+            Kind::Weights => write!(f, "weights {number} (record at {place})"),
             Kind::Unknown => write!(f, "record {number} (at {place})"),
         }
     }

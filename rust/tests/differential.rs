@@ -15,6 +15,7 @@ struct After {
     result: Vec<u64>,
     table: Vec<u64>,
     slots: Vec<u8>,
+    weights: Vec<u16>,
     plan: Vec<u8>,
     legs: Vec<u8>,
     page: Vec<u8>,
@@ -28,6 +29,7 @@ impl After {
             call,
             table: input.table.clone(),
             slots: input.slots.clone(),
+            weights: input.weights.clone(),
             plan: input.plan.clone(),
             legs: input.legs.clone(),
             page: input.page.clone(),
@@ -49,6 +51,7 @@ impl After {
             part("result", &self.result, &other.result),
             part("table", &self.table, &other.table),
             part("slots", &self.slots, &other.slots),
+            part("weights", &self.weights, &other.weights),
             part("plan", &self.plan, &other.plan),
             part("legs", &self.legs, &other.legs),
             part("page", &self.page, &other.page),
@@ -62,20 +65,23 @@ impl After {
 macro_rules! answers {
     ($name:ident, $program:ident) => {
         fn $name(input: &Input) -> [After; 8] {
+            let (book, run) = (&input.book, &input.run);
             let mut read = After::lent("read", input);
-            let r = $program::read(&input.book, &mut read.table, &mut read.slots);
-            read.result = vec![r.code, r.place, r.n, r.m, r.items];
+            let a = &mut read;
+            let r = $program::read(book, &mut a.table, &mut a.slots, &mut a.weights);
+            a.result = vec![r.code, r.place, r.n, r.m, r.items];
 
             let mut check = After::lent("check", input);
-            let r = $program::check(&input.book, &mut check.table, &mut check.slots);
-            check.result = vec![r.code, r.place, r.n, r.m, r.items];
+            let a = &mut check;
+            let r = $program::check(book, &mut a.table, &mut a.slots, &mut a.weights);
+            a.result = vec![r.code, r.place, r.n, r.m, r.items];
 
             let mut assemble = After::lent("assemble", input);
             let a = &mut assemble;
-            let (book, run) = (&input.book, &input.run);
-            let (table, slots, plan) = (&mut a.table, &mut a.slots, &mut a.plan);
-            let r = $program::assemble(book, run, table, slots, plan, &mut a.legs);
-            a.result = vec![r.code, r.place, r.commands, r.legs];
+            let (table, slots, weights) = (&mut a.table, &mut a.slots, &mut a.weights);
+            let (plan, legs) = (&mut a.plan, &mut a.legs);
+            let r = $program::assemble(book, run, table, slots, weights, plan, legs);
+            a.result = vec![r.code, r.place, r.commands, r.legs, r.sum];
             a.result.extend(r.fewest.map(u64::from));
 
             let mut assemble_legs = After::lent("assemble_legs", input);
@@ -83,9 +89,10 @@ macro_rules! answers {
             let mut legs: Vec<$program::Leg> = (input.leg_structs.iter())
                 .map(|&[item, upper, lower]| $program::Leg { item, upper, lower })
                 .collect();
-            let (table, slots, plan) = (&mut a.table, &mut a.slots, &mut a.plan);
-            let r = $program::assemble_legs(book, run, table, slots, plan, &mut legs);
-            a.result = vec![r.code, r.place, r.commands, r.legs];
+            let (table, slots, weights) = (&mut a.table, &mut a.slots, &mut a.weights);
+            let plan = &mut a.plan;
+            let r = $program::assemble_legs(book, run, table, slots, weights, plan, &mut legs);
+            a.result = vec![r.code, r.place, r.commands, r.legs, r.sum];
             a.result.extend(r.fewest.map(u64::from));
             a.legs = legs
                 .iter()
@@ -94,11 +101,12 @@ macro_rules! answers {
 
             let mut page = After::lent("page", input);
             let a = &mut page;
-            let (table, slots, plan, legs) = (&mut a.table, &mut a.slots, &mut a.plan, &mut a.legs);
-            let r = $program::page(book, run, table, slots, plan, legs, &mut a.page);
+            let (table, slots, weights) = (&mut a.table, &mut a.slots, &mut a.weights);
+            let (plan, legs) = (&mut a.plan, &mut a.legs);
+            let r = $program::page(book, run, table, slots, weights, plan, legs, &mut a.page);
             let length = r.length;
             let r = r.assembly;
-            a.result = vec![r.code, r.place, r.commands, r.legs, length];
+            a.result = vec![r.code, r.place, r.commands, r.legs, r.sum, length];
             a.result.extend(r.fewest.map(u64::from));
 
             let out = input.out.clone();
@@ -109,7 +117,8 @@ macro_rules! answers {
             };
             let (n, m, items) = (input.n, input.m, input.items);
             let (table, slots) = (&input.write_table, &input.write_slots);
-            let r = $program::write(n, m, items, table, slots, &mut write.out);
+            let weights = &input.write_weights;
+            let r = $program::write(n, m, items, table, slots, weights, &mut write.out);
             write.result = vec![r.code, r.place, r.length];
 
             let looked_up = |call, r: $program::Lookup| After {
@@ -138,13 +147,15 @@ macro_rules! answers {
 answers!(by_library, verified);
 answers!(by_plain_program, plain);
 
+const ALL: [u64; 14] = [0, 1, 2, 3, 4, 5, 6, 7, 8, 9, 10, 11, 12, 13];
+
 /// The calls with the codes that each has.
 const CODES: [(&str, &[u64]); 8] = [
-    ("read", &[0, 1, 2, 3, 4, 5, 6, 7]),
-    ("check", &[0, 1, 2, 3, 4, 5, 6, 7, 8, 12]),
-    ("assemble", &[0, 1, 2, 3, 4, 5, 6, 7, 8, 9, 10, 11, 12]),
-    ("assemble_legs", &[0, 1, 2, 3, 4, 5, 6, 7, 8, 9, 10, 11, 12]),
-    ("page", &[0, 1, 2, 3, 4, 5, 6, 7, 8, 9, 10, 11, 12]),
+    ("read", &[0, 1, 2, 3, 4, 5, 6, 7, 13]),
+    ("check", &[0, 1, 2, 3, 4, 5, 6, 7, 8, 12, 13]),
+    ("assemble", &ALL),
+    ("assemble_legs", &ALL),
+    ("page", &ALL),
     ("write", &[0, 1, 5, 7]),
     ("ridge", &[0, 5]),
     ("portable", &[0, 5]),
@@ -159,7 +170,7 @@ fn the_library_answers_as_the_plain_program() {
     let first = number("ROLLBACK_SEED", 0);
     let count = number("ROLLBACK_COUNT", 100_000);
     let (mut compared, mut differ) = (0, 0);
-    let mut met = [[0; 13]; CODES.len()];
+    let mut met = [[0; ALL.len()]; CODES.len()];
     for seed in first..first + count {
         let given = input(seed);
         let before = given.clone();
@@ -180,7 +191,7 @@ fn the_library_answers_as_the_plain_program() {
         );
     }
 
-    let shown = |codes: &[u64], met: &[u64; 13]| {
+    let shown = |codes: &[u64], met: &[u64; ALL.len()]| {
         let counts = codes
             .iter()
             .map(|&code| format!("{code}: {}", met[code as usize]));
@@ -193,7 +204,7 @@ fn the_library_answers_as_the_plain_program() {
     println!(
         "{count} inputs, seeds {first} to {}: {compared} calls compared, {differ} differ; codes {}",
         first + count - 1,
-        shown(CODES[2].1, &total)
+        shown(&ALL, &total)
     );
     assert_eq!(differ, 0);
     for ((call, codes), met) in CODES.iter().zip(&met) {

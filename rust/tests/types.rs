@@ -32,6 +32,10 @@ fn plans() {
                     );
                 }
                 assert_eq!(plan.to_string().lines().count(), 1 + legs.len());
+                assert_eq!(plan.sum(), case.sum, "case {number}");
+                let weight = |&command: &u8| u64::from(book.weights()[usize::from(command)]);
+                let sum: u64 = plan.commands().iter().map(weight).sum();
+                assert_eq!(plan.sum(), sum, "case {number}");
                 assert_eq!(book.plan(&case.run).as_ref(), Ok(&plan), "case {number}");
                 ([0, 0], *plan.fewest())
             }
@@ -50,7 +54,7 @@ fn pages() {
         if case.head[0] == 1 {
             continue;
         }
-        let length = case.head[4] as usize;
+        let length = case.head[5] as usize;
         match rollback::plan(&case.book, &case.run) {
             Ok(plan) => {
                 assert_eq!(case.head[0], 0, "case {number}");
@@ -95,7 +99,8 @@ fn books() {
                 .map(|entry| book.outcomes(entry / m, entry % m).unwrap())
                 .collect();
             let items: Vec<Item> = book.items().collect();
-            let written = rollback::write(n, m, &outcomes, &items);
+            assert_eq!(book.weights(), &case.weights_after[..m], "book {number}");
+            let written = rollback::write(n, m, &outcomes, &items, book.weights());
             assert_eq!(written, Ok(case.book.clone()), "book {number}");
         }
     }
@@ -110,7 +115,7 @@ fn what_can_not_be_written() {
         psi: 0,
     };
     let (one, nine, many) = ([0], [0; 9], [0; 257]);
-    let written = |items: &[Item]| rollback::write(1, 1, &[], items);
+    let written = |items: &[Item]| rollback::write(1, 1, &[], items, &[]);
     assert_eq!(
         written(&[item(&one, &one); 65]),
         Err(WriteFault::TooManyItems)
@@ -120,29 +125,76 @@ fn what_can_not_be_written() {
         assert_eq!(written(&[item(&one, &one), item(long, &one)]), fault);
         assert_eq!(written(&[item(&one, &one), item(&one, long)]), fault);
     }
-    // Code 5 at place 0 has three meanings.
-    let fault = |n, m, outcomes: &[u64], items: &[Item]| {
-        rollback::write(n, m, outcomes, items)
+    // Code 5 at place 0 has four meanings.
+    let fault = |n, m, outcomes: &[u64], items: &[Item], weights: &[u16]| {
+        rollback::write(n, m, outcomes, items, weights)
             .unwrap_err()
             .to_string()
     };
     let device = "a device has 1 to 64 states and 1 to 32 commands (code 5)";
-    assert_eq!(fault(0, 1, &[], &[]), device);
-    assert_eq!(fault(64, 33, &[], &[]), device);
+    assert_eq!(fault(0, 1, &[], &[], &[0]), device);
+    assert_eq!(fault(64, 33, &[], &[], &[]), device);
+    let wrong = [item(&nine, &one)];
+    let outcomes = [0, 0, 0, 0, 0, 4];
+    for (weights, command) in [(&[0][..], 0), (&[1, 1001, 0], 1), (&[1000, 1, 65_535], 2)] {
+        assert_eq!(
+            fault(2, 3, &outcomes, &wrong, weights),
+            format!("command {command}: its weight is outside 1 to 1,000 (code 5)")
+        );
+    }
+    // A weight from m on is ignored, and says nothing of an entry's fault.
     let outcome = "state 1, command 2: an outcome is a state that the device lacks (code 5)";
+    for weights in [&[][..], &[1, 1, 1, 0, 0, 0]] {
+        assert_eq!(fault(2, 3, &outcomes, &wrong, weights), outcome);
+    }
     assert_eq!(
-        fault(2, 3, &[0, 0, 0, 0, 0, 4], &[item(&nine, &one)]),
-        outcome
-    );
-    assert_eq!(
-        fault(64, 1, &[], &[item(&nine, &one)]),
+        fault(64, 1, &[], &wrong, &[]),
         "item 0: a field is outside its range (code 5)"
     );
 }
 
+/// All 1 is a book without the record; what lies past m is ignored.
+#[test]
+fn weights_are_written_and_read() {
+    let bare = [2, 0, 1, 0, 1, 2];
+    for (given, read, record) in [
+        (&[][..], [1, 1], &[][..]),
+        (&[1, 1, 9, 0], [1, 1], &[]),
+        (&[3], [3, 1], &[4, 0, 5, 0, 3, 0, 1, 0]),
+        (&[1, 1000, 0], [1, 1000], &[4, 0, 5, 0, 1, 0, 232, 3]),
+        (&[7; 40], [7, 7], &[4, 0, 5, 0, 7, 0, 7, 0]),
+    ] {
+        let bytes = rollback::write(1, 2, &[], &[], given).unwrap();
+        assert_eq!(bytes, [&bare, record].concat());
+        assert_eq!(Book::read(&bytes).unwrap().weights(), read);
+    }
+}
+
+/// Back from on to off by one command, or by three that are cheaper.
+#[test]
+fn the_least_sum() {
+    let item = |reverse| Item {
+        forward: &[1],
+        reverse,
+        phi: 3,
+        psi: 1,
+    };
+    let items = [item(&[0]), item(&[2, 2, 2])];
+    let run = rollback::run(&[1], &[1, 3]);
+    let planned = |weights: &[u16]| {
+        let book = rollback::write(2, 3, &[1, 2, 2, 1, 2, 1], &items, weights).unwrap();
+        let plan = rollback::plan(&book, &run).unwrap();
+        assert_eq!(u64::from(plan.fewest()[1]), plan.sum());
+        (plan.commands().to_vec(), plan.sum())
+    };
+    assert_eq!(planned(&[]), (vec![0], 1));
+    assert_eq!(planned(&[10, 1, 3]), (vec![2, 2, 2], 9));
+    assert_eq!(planned(&[9, 1, 3]), (vec![0], 9));
+}
+
 #[test]
 fn too_long_a_run() {
-    let book = rollback::write(1, 1, &[1], &[]).unwrap();
+    let book = rollback::write(1, 1, &[1], &[], &[]).unwrap();
     for (commands, sightings) in [
         (33, 34),
         (256, 257),
@@ -171,6 +223,11 @@ fn records_have_names() {
     assert_eq!(names[13], "record 13 (at 225)");
     assert_eq!(record_at(&book, usize::MAX).kind, Kind::Unknown);
     assert_eq!(record_at(&[], 0).to_string(), "record 0 (at 0)");
+    let weights = [&book[..6], &[2, 0, 5, 0, 1, 0, 0, 0, 5, 0, 0, 0, 4, 0]].concat();
+    let names = [6, 12, 16].map(|place| record_at(&weights, place).to_string());
+    assert_eq!(names[0], "weights 0 (record at 6)");
+    assert_eq!(names[1], "weights 1 (record at 12)");
+    assert_eq!(names[2], "record 3 (at 16)");
 }
 
 #[test]
@@ -188,6 +245,13 @@ fn faults_have_words() {
     assert_eq!(
         rollback::plan(&book, &q5_run()).unwrap_err().to_string(),
         "item 4 (record at 201): the item can never be used: its forward commands lead from no start in psi to an end in phi (code 12)"
+    );
+    // Q with weights that are all 1.
+    let q = q_book();
+    let book = [&q[..6], &[6, 0, 5, 0, 1, 0, 1, 0, 1, 0], &q[6..]].concat();
+    assert_eq!(
+        rollback::plan(&book, &q5_run()).unwrap_err().to_string(),
+        "weights 0 (record at 6): every weight is 1, as without this record: leave it out (code 13)"
     );
     // Q9: 1; 7 7.
     assert_eq!(
@@ -227,11 +291,12 @@ fn a_plan_reads_as_lines() {
 #[test]
 fn results_are_laid_out_as_in_the_header() {
     assert_eq!(size_of::<Reading>(), 40);
-    assert_eq!(size_of::<Assembly>(), 104);
-    assert_eq!(offset_of!(Assembly, fewest), 32);
-    assert_eq!(size_of::<Paged>(), 112);
+    assert_eq!(size_of::<Assembly>(), 176);
+    assert_eq!(offset_of!(Assembly, sum), 32);
+    assert_eq!(offset_of!(Assembly, fewest), 40);
+    assert_eq!(size_of::<Paged>(), 184);
     assert_eq!(offset_of!(Paged, assembly), 0);
-    assert_eq!(offset_of!(Paged, length), 104);
+    assert_eq!(offset_of!(Paged, length), 176);
     assert_eq!(size_of::<Writing>(), 24);
     assert_eq!(size_of::<Lookup>(), 24);
     assert_eq!((size_of::<Leg>(), align_of::<Leg>()), (3, 1));
@@ -251,6 +316,7 @@ fn a_page_without_its_text() {
             place: 0,
             commands: 0,
             legs: 0,
+            sum: 0,
             fewest: [NONE; POINTS_LEN],
         },
         length,

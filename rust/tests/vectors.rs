@@ -5,13 +5,17 @@ use rollback_cases::{assemble_cases, book_cases, masks, page_cases, write_cases}
 
 const FILL: u8 = 0xA5;
 
+/// Reading or checking.
+type Call = fn(&[u8], &mut [u64], &mut [u8], &mut [u16]) -> Reading;
+
 #[test]
 fn books() {
     let cases = book_cases();
     for (number, case) in cases.iter().enumerate() {
-        let judge = |call: fn(&[u8], &mut [u64], &mut [u8]) -> Reading, expected: [u64; 5]| {
+        let judge = |call: Call, expected: [u64; 5]| {
             let (mut table, mut slots) = (case.table.clone(), case.slots.clone());
-            let r = call(&case.book, &mut table, &mut slots);
+            let mut weights = case.weights.clone();
+            let r = call(&case.book, &mut table, &mut slots, &mut weights);
             assert_eq!(
                 [r.code, r.place, r.n, r.m, r.items],
                 expected,
@@ -20,6 +24,14 @@ fn books() {
             // Reading leaves what checking does, which the files give.
             assert_eq!(table[..40], case.table_after, "table of book {number}");
             assert_eq!(slots[..102], case.slots_after, "slots of book {number}");
+            // A short buffer ends its line.
+            let (given, rest) = weights.split_at(case.weights_after.len());
+            assert_eq!(given, case.weights_after, "weights of book {number}");
+            assert_eq!(
+                rest,
+                &case.weights[given.len()..],
+                "weights of book {number} past the stated length"
+            );
         };
         judge(calls::read, case.reading);
         judge(calls::check, case.checking);
@@ -37,12 +49,25 @@ fn plans() {
         let mut legs_after = [FILL; calls::LEGS_LEN];
         legs_after[..3 * case.leg_list.len()].copy_from_slice(case.leg_list.as_flattened());
         let (mut table, mut slots) = ([0; calls::TABLE_LEN], [0; calls::SLOTS_LEN]);
+        let mut weights = [0; calls::WEIGHTS_LEN];
 
         let (mut plan, mut legs) = ([FILL; calls::PLAN_LEN], [FILL; calls::LEGS_LEN]);
         let (book, run) = (&case.book, &case.run);
-        let r = calls::assemble(book, run, &mut table, &mut slots, &mut plan, &mut legs);
-        let head = [case.code, case.place, case.commands, case.legs];
-        assert_eq!([r.code, r.place, r.commands, r.legs], head, "case {number}");
+        let r = calls::assemble(
+            book,
+            run,
+            &mut table,
+            &mut slots,
+            &mut weights,
+            &mut plan,
+            &mut legs,
+        );
+        let head = [case.code, case.place, case.commands, case.legs, case.sum];
+        assert_eq!(
+            [r.code, r.place, r.commands, r.legs, r.sum],
+            head,
+            "case {number}"
+        );
         assert_eq!(r.fewest, case.fewest, "numbers of case {number}");
         assert_eq!(plan, plan_after, "plan of case {number}");
         assert_eq!(legs, legs_after, "legs of case {number}");
@@ -53,7 +78,15 @@ fn plans() {
             upper: FILL,
             lower: FILL,
         }; calls::LEG_STRUCTS_LEN];
-        let s = calls::assemble_legs(book, run, &mut table, &mut slots, &mut plan, &mut legs);
+        let s = calls::assemble_legs(
+            book,
+            run,
+            &mut table,
+            &mut slots,
+            &mut weights,
+            &mut plan,
+            &mut legs,
+        );
         assert_eq!(s, r, "case {number} with structs");
         assert_eq!(plan, plan_after, "plan of case {number} with structs");
         let legs = legs.map(|leg| [leg.item, leg.upper, leg.lower]);
@@ -71,14 +104,22 @@ fn pages() {
     let cases = page_cases();
     for (number, case) in cases.iter().enumerate() {
         let (mut table, mut slots) = (case.table.clone(), case.slots.clone());
+        let mut weights = case.weights.clone();
         let (mut plan, mut legs) = (case.plan.clone(), case.legs.clone());
         let mut page = case.page.clone();
         let (book, run) = (&case.book, &case.run);
         let r = calls::page(
-            book, run, &mut table, &mut slots, &mut plan, &mut legs, &mut page,
+            book,
+            run,
+            &mut table,
+            &mut slots,
+            &mut weights,
+            &mut plan,
+            &mut legs,
+            &mut page,
         );
         let a = r.assembly;
-        let head = [a.code, a.place, a.commands, a.legs, r.length];
+        let head = [a.code, a.place, a.commands, a.legs, a.sum, r.length];
         assert_eq!(head, case.head, "case {number}");
         assert_eq!(a.fewest, case.fewest, "numbers of case {number}");
         let (given, rest) = page.split_at(case.page_after.len());
@@ -96,14 +137,22 @@ fn pages() {
 
         // All else is assembling's, unless the page is short.
         let (mut table_after, mut slots_after) = (case.table.clone(), case.slots.clone());
+        let mut weights_after = case.weights.clone();
         let (mut plan_after, mut legs_after) = (case.plan.clone(), case.legs.clone());
         if page.len() >= calls::PAGE_LEN {
             let (table, slots) = (&mut table_after, &mut slots_after);
-            let again = calls::assemble(book, run, table, slots, &mut plan_after, &mut legs_after);
+            let (plan, legs) = (&mut plan_after, &mut legs_after);
+            let again = calls::assemble(book, run, table, slots, &mut weights_after, plan, legs);
             assert_eq!(a, again, "case {number}");
         }
-        let after = (table, slots, plan, legs);
-        let expected = (table_after, slots_after, plan_after, legs_after);
+        let after = (table, slots, weights, plan, legs);
+        let expected = (
+            table_after,
+            slots_after,
+            weights_after,
+            plan_after,
+            legs_after,
+        );
         assert!(after == expected, "buffers of case {number}");
     }
     println!("pages: {} cases", cases.len());
@@ -121,6 +170,7 @@ fn writing() {
             case.items,
             &case.table,
             &case.slots,
+            &case.weights,
             &mut out,
         );
         let expected = [case.code, case.place, case.length];

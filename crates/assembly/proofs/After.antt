@@ -1,4 +1,4 @@
--- What assembling leaves: no counts on a refusal; with code 0 the book's items in the slots. Assumes nothing.
+-- What assembling leaves: no counts and no sum on a refusal; with code 0 the book's items in the slots. Assumes nothing.
 use mathlib.Core.Path.{_≡_, refl, sym, ap, _∙_, subst}
 use mathlib.Core.List.{List}
 use Prim.Native.Nat.{ℕ}
@@ -13,25 +13,26 @@ use Rattle.checker.specs.Checks.{AcceptedBook}
 use Rattle.assembly.specs.declared.Assembly.{Assembly}
 use Rattle.assembly.specs.Items.{ItemsOf}
 use Rattle.assembly.specs.Lent.{LegForm, Room, AllLent}
-use Rattle.assembly.specs.Assembles.{Left, Assembles, short, unaccepted, faulty, answered}
+use Rattle.assembly.specs.Assembles.{resultOf, Left, Assembles, short, unaccepted, faulty, answered}
 
 abbrev pub NoneCounted : Assembly → Type 0
-NoneCounted r = (r .commands ≡ 0) × (r .legs ≡ 0)
+NoneCounted r = (r .commands ≡ 0) × (r .legs ≡ 0) × (r .sum ≡ 0)
 
-counts-of : {r x : Assembly} → r ≡ x → x .commands ≡ 0 → x .legs ≡ 0 → NoneCounted r
-counts-of e c n = (ap (λ (y : Assembly). y .commands) e ∙ c, ap (λ (y : Assembly). y .legs) e ∙ n)
+counts-of : {r x : Assembly} → r ≡ x → NoneCounted x → NoneCounted r
+counts-of e (c, n, s) = (ap (λ (y : Assembly). y .commands) e ∙ c, ap (λ (y : Assembly). y .legs) e ∙ n, ap (λ (y : Assembly). y .sum) e ∙ s)
 
-counts-at : {E : Type 0} {form : LegForm E} {room : Room E} {r : Assembly} {room′ : Room E} {a x : Answer} → Left form a room r room′ → a ≡ x → x .commands ≡ 0 → x .leg-count ≡ 0 → NoneCounted r
-counts-at w e c n = counts-of (w .result-is) (ap (λ (y : Answer). y .commands) e ∙ c) (ap (λ (y : Answer). y .leg-count) e ∙ n)
+counts-at : {E : Type 0} {form : LegForm E} {room : Room E} {r : Assembly} {room′ : Room E} {a x : Answer} → Left form a room r room′ → a ≡ x
+    → NoneCounted (resultOf x) → NoneCounted r
+counts-at w e n = counts-of (w .result-is ∙ ap resultOf e) n
 
 module _ {E : Type 0} {form : LegForm E} {book run : List ℕ} {l : AllLent E} {r : Assembly} {l′ : AllLent E} where
-  -- "Counts are 0 on refusals"
+  -- "Counts are 0 on refusals"; 02, of the sum: "0 on a refusal"
   pub none-counted : Assembles form book run l r l′ → (r .code ≡ 0 → ⊥) → NoneCounted r
-  none-counted (short a e k) z = counts-of e refl refl
-  none-counted (unaccepted long x n e w) z = counts-of e refl refl
-  none-counted (faulty long b k n e w) z = counts-of e refl refl
-  none-counted (answered long b k u al ub an (no-history n q) w) z = counts-at w q refl refl
-  none-counted (answered long b k u al ub an (no-chain p v n ns m q) w) z = counts-at w q refl refl
+  none-counted (short a e k) z = counts-of e (refl, refl, refl)
+  none-counted (unaccepted long x n e w) z = counts-of e (refl, refl, refl)
+  none-counted (faulty long b k n e w) z = counts-of e (refl, refl, refl)
+  none-counted (answered long b k u al ub an (no-history n q) w) z = counts-at w q (refl, refl, refl)
+  none-counted (answered long b k u al ub an (no-chain p v n ns m q) w) z = counts-at w q (refl, refl, refl)
   none-counted (answered long b k u al ub an (done p v xs best ns m q) w) z =
       absurd (z (ap (λ (y : Assembly). y .code) (w .result-is) ∙ ap (λ (y : Answer). y .code) q))
 

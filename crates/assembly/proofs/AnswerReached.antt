@@ -11,19 +11,19 @@ use Rattle.base.specs.Lists.{Each}
 use Rattle.reversal.specs.Device.{Device}
 use Rattle.reversal.specs.Reversal.{Item}
 use Rattle.reversal.specs.Runs.{Run, last}
-use Rattle.reversal.specs.Chains.{none, planOf, legsOf}
+use Rattle.reversal.specs.Chains.{none, planOf, legsOf, cost}
 use Rattle.reversal.specs.Answers.{Allowed, Answer, refused, assembled}
 use Rattle.reversal.specs.Computed.Beliefs.{belief}
 use Rattle.reversal.specs.Computed.Least.{Links, Linked, total, leasts, leastAt, chosen}
 use Rattle.reversal.specs.Computed.Assembly.{links, numbers, answer}
 use Rattle.reversal.proofs.Shortest.{leasts-length, leasts-at, least-most, chosen-linked}
-use Rattle.reversal.proofs.Assembling.{sound, total-cost}
+use Rattle.reversal.proofs.Assembling.{linked→chain, sound, total-cost, plan-most}
 use Rattle.runs.specs.Computed.{runOf}
 use Rattle.runs.proofs.Points.{last-is, command-is}
 use Rattle.assembly.specs.declared.Assembly.{Assembly}
 use Rattle.assembly.specs.declared.chain.Counts.{Counts}
 use Rattle.assembly.specs.Believed.{Believed}
-use Rattle.assembly.specs.Items.{Items, ItemsOf}
+use Rattle.assembly.specs.Items.{Items, ItemsOf, WeightsOf}
 use Rattle.assembly.specs.Links.{linksOf, Numbered}
 use Rattle.assembly.specs.ChainFollowed.{followed, Steps, planIn, legsIn, walk, Walkable, Walked}
 use Rattle.assembly.specs.Lent.{legsBytes, inBytes, Room}
@@ -38,8 +38,20 @@ pub record Stored (a : Answer) (room : Room ℕ) (r : Assembly) (room′ : Room 
   pub result-is : r ≡ resultOf a
   pub room-is : room′ ≡ roomOf inBytes room a
 
-module _ (dev : Device) (items : List Item) (run : List ℕ) (allowed : Allowed dev items (runOf run)) (F : Items) (fields : ItemsOf items F)
-    (beliefs : List ℕ) (believed : Believed dev (runOf run) beliefs) (room : Room ℕ) where
+-- code 0 with both counts, the sum and the numbers
+abbrev pub counted : ℕ → ℕ → ℕ → List ℕ → Assembly
+counted commands legs sum fewest = record { code = 0; place = 0; commands = commands; legs = legs; sum = sum; fewest = fewest }
+
+-- a chain is found: it can be walked, its sum is below none, and what the walk leaves is the answer
+pub record ChainFound (F : Items) (fewest firsts : List ℕ) (room : Room ℕ) (a : Answer) (i : ℕ) : Type 0 where
+  pub walkable : Walkable F firsts i
+  pub sum-low : getD fewest i 0 < none
+  pub stored : {w : Counts} {room′ : Room ℕ} → Walked F firsts i (room .plan) (room .legs) w (room′ .plan) (room′ .legs)
+      → Stored a room (counted (w .commands) (w .legs) (getD fewest i 0) fewest) room′
+
+module _ (dev : Device) (ws : List ℕ) (items : List Item) (run : List ℕ) (allowed : Allowed dev ws items (runOf run)) (F : Items)
+    (fields : ItemsOf items F) (W : List ℕ) (weigh : WeightsOf (dev .m) ws W) (beliefs : List ℕ) (believed : Believed dev (runOf run) beliefs)
+    (room : Room ℕ) where
   abbrev r : Run
   r = runOf run
 
@@ -47,31 +59,32 @@ module _ (dev : Device) (items : List Item) (run : List ℕ) (allowed : Allowed 
   i = last r
 
   abbrev Q : Links
-  Q = links dev r items
+  Q = links dev ws r items
 
   -- ---- code 10
   module _ (none-left : getD beliefs 0 0 ≡ 0) where
-    answer-10 : answer dev items r ≡ refused 10 (replicate 33 none)
+    answer-10 : answer dev ws items r ≡ refused 10 (replicate 33 none)
     unfolding answer pick
     answer-10 = rw (eq-eqb (belief dev r 0) 0 (sym (believed .each 0 (omega arith)) ∙ none-left))
 
-    pub no-state : {w : Assembly} → w ≡ refusal 10 0 → Stored (answer dev items r) room w room
+    pub no-state : {w : Assembly} → w ≡ refusal 10 0 → Stored (answer dev ws items r) room w room
     unfolding legsBytes
     no-state {w} e =
         subst (λ (a : Answer). Stored a room w room) (sym answer-10) (record { result-is = e; room-is = refl })
 
   -- ---- codes 11 and 0
-  module _ (some : getD beliefs 0 0 ≡ 0 → ⊥) {fewest firsts : List ℕ} (fieldwise : Numbered (linksOf F run beliefs (length items)) i fewest firsts) where
+  module _ (some : getD beliefs 0 0 ≡ 0 → ⊥) {fewest firsts : List ℕ} (fieldwise : Numbered (linksOf F W run beliefs (length items)) i fewest firsts) where
     possible : belief dev r 0 ≡ 0 → ⊥
     possible e = some (believed .each 0 (omega arith) ∙ e)
 
-    agrees : Agree i (linksOf F run beliefs (length items)) Q
-    agrees = links-agree dev r items F fields run beliefs (λ y q. command-is run y (omega (arith, last-is run))) (believed .each)
+    agrees : Agree i (linksOf F W run beliefs (length items)) Q
+    agrees =
+        links-agree dev r items F fields run beliefs (λ y q. command-is run y (omega (arith, last-is run))) (believed .each) (allowed .each) ws W weigh
 
     num : Numbered Q i fewest firsts
     num = numbered-same agrees fieldwise
 
-    fewest-is : fewest ≡ numbers dev r items
+    fewest-is : fewest ≡ numbers dev ws r items
     unfolding numbers
     fewest-is = num .fewest
 
@@ -82,41 +95,41 @@ module _ (dev : Device) (items : List Item) (run : List ℕ) (allowed : Allowed 
         ∙ leasts-at Q i i (omega arith)
 
     module _ (no-number : getD fewest i 0 ≡ Q .top) where
-      answer-11 : answer dev items r ≡ refused 11 fewest
+      answer-11 : answer dev ws items r ≡ refused 11 fewest
       unfolding answer pick
       answer-11 = rw (ne-eqb (belief dev r 0) 0 possible, eq-eqb (leastAt Q i) (Q .top) (sym least-is ∙ no-number)) (ap (refused 11) (sym fewest-is))
 
-      pub no-chain : Stored (answer dev items r) room (record { code = 11; place = 0; commands = 0; legs = 0; fewest = fewest }) room
+      pub no-chain : Stored (answer dev ws items r) room (record { code = 11; place = 0; commands = 0; legs = 0; sum = 0; fewest = fewest }) room
       unfolding legsBytes
       no-chain =
           subst
-          (λ (a : Answer). Stored a room (record { code = 11; place = 0; commands = 0; legs = 0; fewest = fewest }) room)
+          (λ (a : Answer). Stored a room (record { code = 11; place = 0; commands = 0; legs = 0; sum = 0; fewest = fewest }) room)
           (sym answer-11) (record { result-is = refl; room-is = refl })
 
     module _ (number : getD fewest i 0 ≡ Q .top → ⊥) where
       abbrev xs : List ℕ
       xs = chosen Q i i
 
-      answer-0 : answer dev items r ≡ assembled items i xs fewest
+      answer-0 : answer dev ws items r ≡ assembled ws items i xs fewest
       unfolding answer pick
       answer-0 =
           rw (ne-eqb (belief dev r 0) 0 possible, ne-eqb (leastAt Q i) (Q .top) (λ e. number (least-is ∙ e)))
-          (ap (assembled items i xs) (sym fewest-is))
+          (ap (assembled ws items i xs) (sym fewest-is))
 
       below : leastAt Q i < Q .top
-      below = strictly (least-most Q (sound dev items r allowed) i) (λ e. number (least-is ∙ e))
+      below = strictly (least-most Q (sound dev ws items r allowed) i) (λ e. number (least-is ∙ e))
         where
           strictly : {x : ℕ} → x ≤ Q .top → (x ≡ Q .top → ⊥) → x < Q .top
           strictly {x} l d = omega (arith, l, d)
 
       linked : Linked Q i xs × (total Q xs ≡ leastAt Q i)
-      linked = chosen-linked Q (sound dev items r allowed) i i (omega arith) below
+      linked = chosen-linked Q (sound dev ws items r allowed) i i (omega arith) below
 
       known : Each (λ a. a < length items) xs
       known = linked-known Q xs i (linked .0)
 
       walks : (followed F firsts i i ≡ xs) × Steps F firsts i i
-      walks = followed-chosen Q (sound dev items r allowed) F (agrees .k-same) num i i (omega arith) (omega arith) below
+      walks = followed-chosen Q (sound dev ws items r allowed) F (agrees .k-same) num i i (omega arith) (omega arith) below
 
       plan-is : planIn F (walk F firsts i) ≡ planOf items xs
       plan-is = ap (planIn F) (walks .0) ∙ plan-same items F fields xs known
@@ -124,25 +137,32 @@ module _ (dev : Device) (items : List Item) (run : List ℕ) (allowed : Allowed 
       legs-are : legsIn F i (walk F firsts i) ≡ legsBytes (legsOf items i xs)
       legs-are = ap (legsIn F i) (walks .0) ∙ legs-same items F fields xs i known
 
-      pub walkable : Walkable F firsts i
+      sum-is : getD fewest i 0 ≡ cost ws items xs
+      sum-is = least-is ∙ sym (linked .1) ∙ total-cost dev ws items r allowed xs
+
+      walkable : Walkable F firsts i
       walkable =
           record {
             low = allowed .run .short;
             steps = walks .1;
-            short = omega (arith, ap (λ (l : List ℕ). length l) plan-is, total-cost dev items r allowed xs, linked .1, below);
+            short = omega (arith, ap (λ (l : List ℕ). length l) plan-is, plan-most dev ws items r allowed xs i (linked→chain dev ws items r allowed xs i (omega arith) (linked .0)), allowed .run .short);
           }
 
-      pub chain-stored : {w : Counts} {room′ : Room ℕ} → Walked F firsts i (room .plan) (room .legs) w (room′ .plan) (room′ .legs)
-          → Stored (answer dev items r) room (record { code = 0; place = 0; commands = w .commands; legs = w .legs; fewest = fewest }) room′
+      chain-stored : {w : Counts} {room′ : Room ℕ} → Walked F firsts i (room .plan) (room .legs) w (room′ .plan) (room′ .legs)
+          → Stored (answer dev ws items r) room (counted (w .commands) (w .legs) (getD fewest i 0) fewest) room′
       chain-stored {w} {room′} g =
           subst
-          (λ (a : Answer). Stored a room (record { code = 0; place = 0; commands = w .commands; legs = w .legs; fewest = fewest }) room′)
+          (λ (a : Answer). Stored a room (counted (w .commands) (w .legs) (getD fewest i 0) fewest) room′)
           (sym answer-0)
           (record {
             result-is =
-                ap₂ (λ (x y : ℕ). record { code = 0; place = 0; commands = x; legs = y; fewest = fewest })
-                (g .commands-is ∙ ap (λ (l : List ℕ). length l) plan-is) (g .count-is ∙ ap (λ (l : List ℕ). length l) (walks .0));
+                ap₂ (λ (x y : ℕ). counted x y (getD fewest i 0) fewest)
+                (g .commands-is ∙ ap (λ (l : List ℕ). length l) plan-is) (g .count-is ∙ ap (λ (l : List ℕ). length l) (walks .0))
+                ∙ ap (λ (x : ℕ). counted (length (planOf items xs)) (length xs) x fewest) sum-is;
             room-is =
                 ap₂ (λ (x y : List ℕ). record { plan = x; legs = y })
                 (g .plan-is ∙ ap (sets (room .plan) 0) plan-is) (g .legs-is ∙ ap (sets (room .legs) 0) legs-are);
           })
+
+      pub chain-found : ChainFound F fewest firsts room (answer dev ws items r) i
+      chain-found = record { walkable = walkable; sum-low = subst (λ (x : ℕ). x < none) (sym least-is) below; stored = chain-stored }

@@ -42,7 +42,7 @@ module _ (R : Links) (ns : List ℕ) (j : ℕ) where
       }
 
   module _ {a number item : ℕ} (g : Chosen R ns j a number item) where
-    -- a longer way
+    -- a dearer way
     keeps : number ≤ via R ns j a → Chosen R ns j (a + 1) number item
     unfolding least
     keeps l =
@@ -58,12 +58,12 @@ module _ (R : Links) (ns : List ℕ) (j : ℕ) where
     pub choice-out : R .fit a j ≡ false → Chosen R ns j (a + 1) number item
     choice-out f = keeps (omega (arith, via-none a f, g .most))
 
-    -- item a fits, and leads to r commands and the x from its lower point
+    -- item a fits, costs r, and leads to the x from its lower point
     module _ (k r x : ℕ) (fit : R .fit a j ≡ true) (p : k ≡ R .k a) (q : r ≡ R .price a) (e : x ≡ getD ns (j - k) 0) where
       pub choice-kept : number ≤ r + x → Chosen R ns j (a + 1) number item
       choice-kept l = keeps (omega (arith, via-fit a k r x fit p q e))
 
-      -- a shorter way
+      -- a cheaper way
       pub choice-taken : r + x < number → Chosen R ns j (a + 1) (r + x) a
       unfolding least
       choice-taken l =

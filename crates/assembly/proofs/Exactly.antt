@@ -2,12 +2,12 @@
 use mathlib.Core.Path.{_≡_, refl, sym, ap, ap₂, _∙_, subst, subst₂}
 use mathlib.Core.Bool.{Bool, true, false}
 use mathlib.Core.List.{List, [], _∷_}
-use Prim.Native.Nat.{ℕ, _-_, _*_, _≤_, _<_}
+use Prim.Native.Nat.{ℕ, _*_, _≤_, _<_}
 use native.Mathlib.Decide.{decLt}
 use native.Mathlib.Nat.{le-trans, mul-comm, mul-le-mul-left}
 use native.Mathlib.Omega.{arith}
 use lib.Dec.{T}
-use lib.ListN.{length, length-append}
+use lib.ListN.{length}
 use Rattle.base.specs.Lists.{Each}
 use Rattle.base.specs.Sizes.{LongEnough}
 use Rattle.base.specs.Shorter.{anyShort}
@@ -17,9 +17,9 @@ use Rattle.base.proofs.Lists.{each-at, stored}
 use Rattle.reversal.specs.Device.{Device}
 use Rattle.reversal.specs.Reversal.{Item, AllowedItem}
 use Rattle.reversal.specs.Runs.{Run, AllowedRun, last}
-use Rattle.reversal.specs.Chains.{Leg, absent, item, lower, Chain, planOf, legsOf, cost}
+use Rattle.reversal.specs.Chains.{Leg, absent, lower, Chain, legsOf}
 use Rattle.reversal.specs.Answers.{Allowed, Answer, Answers, no-history, no-chain, done}
-use Rattle.reversal.proofs.Assembling.{answer-right}
+use Rattle.reversal.proofs.Assembling.{plan-most, answer-right}
 use Rattle.book.specs.Book.{Book, deviceOf}
 use Rattle.book.specs.Lent.{Lent}
 use Rattle.book.proofs.Device.{device-proper}
@@ -39,16 +39,12 @@ use Rattle.assembly.specs.Assembles.{refusal, resultOf, Left, Assembles,
 use Rattle.assembly.specs.Contract.{answerOf, plannedBy, assembleBy, AssembleAs}
 use Rattle.assembly.proofs.Lengths.{some-short, all-long}
 
--- ---- a chain has at most 8 commands and one item for each point passed
+-- ---- a chain has at most one item for each point passed
 module _ (d : Device) (r : Run) (items : List Item) (each : Each (AllowedItem d) items) where
-  pub chain-most : (xs : List ℕ) (j : ℕ) → Chain d r items j xs → (cost items xs ≤ 8 * j) × (length xs ≤ j)
-  chain-most [] j c = (omega arith, omega arith)
+  pub chain-most : (xs : List ℕ) (j : ℕ) → Chain d r items j xs → length xs ≤ j
+  chain-most [] j c = omega arith
   chain-most (a ∷ xs) j c =
-      let (p, q) = chain-most xs (lower items j a) (c .2) in
-      let x = each-at (AllowedItem d) items each a absent (c .0) in (
-        omega (arith, p, length-append (item items a .reverse) (planOf items xs), c .1 .room, x .some, x .reverse-most),
-        omega (arith, q, c .1 .room, x .some),
-      )
+      omega (arith, chain-most xs (lower items j a) (c .2), c .1 .room, each-at (AllowedItem d) items each a absent (c .0) .some)
 
 pub length-legs : (items : List Item) (xs : List ℕ) (j : ℕ) → length (legsOf items j xs) ≡ length xs
 length-legs items [] j = refl
@@ -69,12 +65,13 @@ pub record Small (a : Answer) : Type 0 where
   pub legs-small : length (a .plan-legs) ≤ 32
   pub legs-counted : length (a .plan-legs) ≡ a .leg-count
 
-module _ (d : Device) (items : List Item) (r : Run) (ok : Allowed d items r) where
-  pub answer-small : (a : Answer) → Answers d items r a → Small a
+module _ (d : Device) (ws : List ℕ) (items : List Item) (r : Run) (ok : Allowed d ws items r) where
+  pub answer-small : (a : Answer) → Answers d ws items r a → Small a
   answer-small a (no-history n e) = rw e (record { plan-small = omega arith; legs-small = omega arith; legs-counted = refl })
   answer-small a (no-chain h u n ns q e) = rw e (record { plan-small = omega arith; legs-small = omega arith; legs-counted = refl })
   answer-small a (done h u xs best ns q e) =
-      let (p, l) = chain-most d r items (ok .each) xs (last r) (best .chain) in
+      let p = plan-most d ws items r ok xs (last r) (best .chain) in
+      let l = chain-most d r items (ok .each) xs (last r) (best .chain) in
       let counted = length-legs items xs (last r) in
       rw e (record { plan-small = omega (arith, ok .run .short); legs-small = omega (arith, ok .run .short, counted); legs-counted = counted })
 
@@ -162,22 +159,25 @@ module _ {E : Type 0} {form : LegForm E} (even : Even form) {book run : List ℕ
     abbrev dev : Device
     dev = deviceOf (b long z)
 
+    abbrev ws : List ℕ
+    ws = b long z .weights
+
     abbrev items : List Item
     items = b long z .items
 
     fine-run : AllowedRun dev (runOf run) × (runBytes (runOf run) ≡ run)
     fine-run = run-value dev run (c .run-bytes) e
 
-    allowed : Allowed dev items (runOf run)
+    allowed : Allowed dev ws items (runOf run)
     allowed =
         let ok = g long z .accepted .allowed in
-        record { device = device-proper (b long z) ok; each = ok .each-item; run = fine-run .0 }
+        record { device = device-proper (b long z) ok; weights = ok .weighed; each = ok .each-item; run = fine-run .0 }
 
-    right : Answers dev items (runOf run) (answerOf (b long z) run)
-    right = answer-right dev items (runOf run) allowed
+    right : Answers dev ws items (runOf run) (answerOf (b long z) run)
+    right = answer-right dev ws items (runOf run) allowed
 
     small : Small (answerOf (b long z) run)
-    small = answer-small dev items (runOf run) allowed (answerOf (b long z) run) right
+    small = answer-small dev ws items (runOf run) allowed (answerOf (b long z) run) right
 
   pub outcome : Outcome form book run l
   outcome = go way

@@ -1,4 +1,5 @@
--- Whether an item fits, as the code tests it, is whether reversal's item fits; so the links agree. Assumes nothing.
+-- Whether an item fits, as the code tests it, is whether reversal's item fits, and what it costs is what that costs; so the links agree. Assumes
+-- nothing.
 use mathlib.Core.Path.{_≡_, refl, sym, ap, _∙_}
 use mathlib.Core.Bool.{Bool, false}
 use mathlib.Core.List.{List}
@@ -10,19 +11,23 @@ use lib.Dec.{eqb, eqb→eq, leb}
 use lib.ListN.{length, getD, take, drop, length-take, length-drop}
 use lib.Seq.{ext-getD, getD-take, getD-drop}
 use Rattle.base.specs.Tests.{both}
+use Rattle.base.specs.Lists.{Each}
 use Rattle.base.specs.Bounded.{all}
 use Rattle.base.specs.Masks.{inside}
 use Rattle.base.proofs.Tests.{test-same, eq-T}
+use Rattle.base.proofs.Lists.{each-at}
 use Rattle.base.proofs.Bounded.{all-at, all-of}
 use Rattle.reversal.specs.Device.{Device}
-use Rattle.reversal.specs.Reversal.{Item}
+use Rattle.reversal.specs.Reversal.{Item, AllowedItem}
 use Rattle.reversal.specs.Runs.{Run, last, command}
-use Rattle.reversal.specs.Chains.{item}
+use Rattle.reversal.specs.Weights.{sumOf}
+use Rattle.reversal.specs.Chains.{absent, item}
 use Rattle.reversal.specs.Computed.Beliefs.{belief}
 use Rattle.reversal.specs.Computed.Assembly.{sameList, fits, links}
+use Rattle.reversal.proofs.Weights.{sum-same}
 use Rattle.reversal.proofs.Fitting.{same-eq, eq-same}
 use Rattle.runs.specs.Computed.{commandOf}
-use Rattle.assembly.specs.Items.{Items, ItemsOf}
+use Rattle.assembly.specs.Items.{Items, ItemsOf, WeightsOf}
 use Rattle.assembly.specs.Links.{sameAt, fitsAt, linksOf}
 use Rattle.assembly.proofs.LinksAgree.{Agree}
 
@@ -81,12 +86,15 @@ module _ (d : Device) (r : Run) (items : List Item) (F : Items) (fields : ItemsO
         go (no h) = rw (same-is (omega arith), beliefs j below, beliefs low (omega arith))
 
   -- ---- all items
-  pub links-agree : Agree (last r) (linksOf F s sets (length items)) (links d r items)
-  links-agree =
+  pub links-agree : Each (AllowedItem d) items → (ws W : List ℕ) → WeightsOf (d .m) ws W
+      → Agree (last r) (linksOf F W s sets (length items)) (links d ws r items)
+  links-agree each ws W weigh =
       record {
         count-same = refl;
         top-same = refl;
         k-same = λ a l. ap (λ (x : Item). length (x .forward)) (fields a l);
-        price-same = λ a l. ap (λ (x : Item). length (x .reverse)) (fields a l);
+        price-same = λ a l.
+            ap (λ (x : Item). sumOf W (x .reverse)) (fields a l)
+            ∙ sum-same W ws (d .m) weigh (item items a .reverse) (each-at (AllowedItem d) items each a absent l .reverse-commands);
         fit-same = fits-same;
       }

@@ -1,5 +1,6 @@
 pub mod Passes
 pub mod FitTests
+pub mod ReverseSum
 pub mod BestItem
 pub mod Numbers
 pub mod ChainWritten

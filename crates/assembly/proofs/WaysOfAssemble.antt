@@ -19,6 +19,7 @@ use Rattle.book.specs.Book.{Book, deviceOf}
 use Rattle.book.specs.Lent.{Lent}
 use Rattle.book.specs.Slots.{itemAt}
 use Rattle.book.proofs.Slots.{slot-holds}
+use Rattle.book.proofs.Weights.{weight-holds}
 use Rattle.book.proofs.Device.{device-proper, tabled-device}
 use Rattle.reader.specs.declared.Reading.{Reading}
 use Rattle.checker.specs.Contract.{checkBy, CheckAs}
@@ -29,15 +30,15 @@ use Rattle.runs.proofs.Formed.{run-value}
 use Rattle.assembly.specs.declared.Assembly.{Assembly}
 use Rattle.assembly.specs.declared.chain.Counts.{Counts}
 use Rattle.assembly.specs.Believed.{Believed}
-use Rattle.assembly.specs.Items.{ItemsOf}
+use Rattle.assembly.specs.Items.{ItemsOf, WeightsOf}
 use Rattle.assembly.specs.Links.{linksOf, Moving, Numbered}
-use Rattle.assembly.specs.ChainFollowed.{Walkable, Walked}
+use Rattle.assembly.specs.ChainFollowed.{Walked}
 use Rattle.assembly.specs.Lent.{inBytes, Room, AllLent, roomSizes, allSizes}
 use Rattle.assembly.specs.Assembles.{refusal, resultOf}
 use Rattle.assembly.specs.Contract.{answerOf, plannedBy, assembleBy, roomOf, AssembleAs}
 use Rattle.assembly.proofs.Lengths.{some-short, room-long}
 use Rattle.assembly.proofs.AnswerReached as reached
-use Rattle.assembly.proofs.AnswerReached.{Stored}
+use Rattle.assembly.proofs.AnswerReached.{Stored, counted, ChainFound}
 
 -- ---- a short buffer
 module _ {book run : List ℕ} {l : AllLent ℕ} (bytes : Bytes book) (run-bytes : Bytes run) (short : anyShort (allSizes inBytes l) ≡ true) where
@@ -109,6 +110,11 @@ module _ {book run : List ℕ} {l : AllLent ℕ} {f : Reading} {read : Lent} (h 
     fields : ItemsOf (b .items) (itemAt (read .slots))
     fields = subst (λ (x : Lent). ItemsOf (b .items) (itemAt (x .slots))) (sym (g .buffers)) (slot-holds b (l .read .slots) (g .accepted .allowed) (g .long .1 .0))
 
+    weighed : WeightsOf (b .m) (b .weights) (read .weights)
+    weighed =
+        subst (λ (x : Lent). WeightsOf (b .m) (b .weights) (x .weights)) (sym (g .buffers))
+        (weight-holds b (l .read .weights) (g .accepted .allowed) (g .long .1 .1 .0))
+
     pub movable : Moving (itemAt (read .slots)) (f .items)
     movable a l =
         let known = subst (λ (n : ℕ). a < n) items-is l in
@@ -149,8 +155,10 @@ module _ {book run : List ℕ} {l : AllLent ℕ} {f : Reading} {read : Lent} (w 
   run-ok : AllowedRun (deviceOf B) (runOf run)
   run-ok = run-value (deviceOf B) run (h .run-bytes) fine .0
 
-  allowed : Allowed (deviceOf B) (B .items) (runOf run)
-  allowed = let ok = g h z .accepted .allowed in record { device = device-proper B ok; each = ok .each-item; run = run-ok }
+  allowed : Allowed (deviceOf B) (B .weights) (B .items) (runOf run)
+  allowed =
+      let ok = g h z .accepted .allowed in
+      record { device = device-proper B ok; weights = ok .weighed; each = ok .each-item; run = run-ok }
 
   pub low : lastOf run ≤ 32
   low = omega (arith, last-is run, run-ok .short)
@@ -171,7 +179,10 @@ module _ {book run : List ℕ} {l : AllLent ℕ} {f : Reading} {read : Lent} (w 
     held = subst (λ (v : Device). Believed v (runOf run) beliefs) (device-is h z) believed
 
     pub no-state : getD beliefs 0 0 ≡ 0 → {r : Assembly} → r ≡ refusal 10 0 → AssembleAs inBytes book run l r (left read (l .room))
-    no-state s p = answered (reached.no-state (deviceOf B) (B .items) run allowed (itemAt (read .slots)) (fields h z) beliefs held (l .room) s p)
+    no-state s p =
+        answered
+        (reached.no-state (deviceOf B) (B .weights) (B .items) run allowed (itemAt (read .slots)) (fields h z) (read .weights) (weighed h z) beliefs held
+        (l .room) s p)
 
 -- ---- some state is possible and the numbers are known
 pub record NumbersKnown (beliefs : List ℕ) (i : ℕ) (fewest firsts : List ℕ) (book run : List ℕ) (l : AllLent ℕ) (f : Reading) (read : Lent) : Type 0 where
@@ -179,7 +190,7 @@ pub record NumbersKnown (beliefs : List ℕ) (i : ℕ) (fewest firsts : List ℕ
   pub believed : Believed (tabled (f .n) (f .m) (read .table)) (runOf run) beliefs
   pub some : getD beliefs 0 0 ≡ 0 → ⊥
   pub last-point : i ≡ lastOf run
-  pub num : Numbered (linksOf (itemAt (read .slots)) run beliefs (f .items)) i fewest firsts
+  pub num : Numbered (linksOf (itemAt (read .slots)) (read .weights) run beliefs (f .items)) i fewest firsts
 
 module _ {beliefs : List ℕ} {i : ℕ} {fewest firsts book run : List ℕ} {l : AllLent ℕ} {f : Reading} {read : Lent}
     (k : NumbersKnown beliefs i fewest firsts book run l f read) where
@@ -189,29 +200,26 @@ module _ {beliefs : List ℕ} {i : ℕ} {fewest firsts book run : List ℕ} {l :
   i-is : i ≡ last (runOf run)
   i-is = k .last-point ∙ last-is run
 
-  num′ : Numbered (linksOf (itemAt (read .slots)) run beliefs (length (B w .items))) (last (runOf run)) fewest firsts
-  num′ = subst₂ (λ (n j : ℕ). Numbered (linksOf (itemAt (read .slots)) run beliefs n) j fewest firsts) (items-is (h w) (z w)) i-is (k .num)
+  num′ : Numbered (linksOf (itemAt (read .slots)) (read .weights) run beliefs (length (B w .items))) (last (runOf run)) fewest firsts
+  num′ = subst₂ (λ (n j : ℕ). Numbered (linksOf (itemAt (read .slots)) (read .weights) run beliefs n) j fewest firsts) (items-is (h w) (z w)) i-is (k .num)
 
   number-is : getD fewest i 0 ≡ getD fewest (last (runOf run)) 0
   number-is = ap (λ (j : ℕ). getD fewest j 0) i-is
 
   pub no-number : getD fewest i 0 ≡ none
-      → AssembleAs inBytes book run l (record { code = 11; place = 0; commands = 0; legs = 0; fewest = fewest }) (left read (l .room))
+      → AssembleAs inBytes book run l (record { code = 11; place = 0; commands = 0; legs = 0; sum = 0; fewest = fewest }) (left read (l .room))
   no-number s =
       answered w
-      (reached.no-chain (deviceOf (B w)) (B w .items) run (allowed w) (itemAt (read .slots)) (fields (h w) (z w)) beliefs (held w (k .believed)) (l .room) (k .some) num′
-      (sym number-is ∙ s))
+      (reached.no-chain (deviceOf (B w)) (B w .weights) (B w .items) run (allowed w) (itemAt (read .slots)) (fields (h w) (z w)) (read .weights)
+      (weighed (h w) (z w)) beliefs (held w (k .believed)) (l .room) (k .some) num′ (sym number-is ∙ s))
 
   module _ (number : getD fewest i 0 ≡ none → ⊥) where
-    pub can-walk : Walkable (itemAt (read .slots)) firsts i
-    can-walk =
-        subst (Walkable (itemAt (read .slots)) firsts) (sym i-is)
-        (reached.walkable (deviceOf (B w)) (B w .items) run (allowed w) (itemAt (read .slots)) (fields (h w) (z w)) beliefs (held w (k .believed)) (l .room) (k .some) num′
-        (λ e. number (number-is ∙ e)))
+    pub found : ChainFound (itemAt (read .slots)) fewest firsts (l .room) (answerOf (B w) run) i
+    found =
+        subst (ChainFound (itemAt (read .slots)) fewest firsts (l .room) (answerOf (B w) run)) (sym i-is)
+        (reached.chain-found (deviceOf (B w)) (B w .weights) (B w .items) run (allowed w) (itemAt (read .slots)) (fields (h w) (z w)) (read .weights)
+        (weighed (h w) (z w)) beliefs (held w (k .believed)) (l .room) (k .some) num′ (λ e. number (number-is ∙ e)))
 
     pub written : {counts : Counts} {room : Room ℕ} → Walked (itemAt (read .slots)) firsts i (l .room .plan) (l .room .legs) counts (room .plan) (room .legs)
-        → AssembleAs inBytes book run l (record { code = 0; place = 0; commands = counts .commands; legs = counts .legs; fewest = fewest }) (left read room)
-    written {counts} {room} x =
-        answered w
-        (reached.chain-stored (deviceOf (B w)) (B w .items) run (allowed w) (itemAt (read .slots)) (fields (h w) (z w)) beliefs (held w (k .believed)) (l .room) (k .some) num′
-        (λ e. number (number-is ∙ e)) (subst (λ (j : ℕ). Walked (itemAt (read .slots)) firsts j (l .room .plan) (l .room .legs) counts (room .plan) (room .legs)) i-is x))
+        → AssembleAs inBytes book run l (counted (counts .commands) (counts .legs) (getD fewest i 0) fewest) (left read room)
+    written x = answered w (found .stored x)

@@ -16,13 +16,13 @@ use Rattle.runs.specs.RunBytes.{runBytes, RunFormed}
 use Rattle.assembly.specs.declared.Assembly.{Assembly}
 use Rattle.assembly.specs.Lent.{LegForm, Room, AllLent, allSizes}
 
--- "Counts are 0 on refusals; the 33 numbers are all 65,535, except that 11 gives them true."
+-- "Counts are 0 on refusals; the 33 numbers are all 65,535, except that 11 gives them true."; 02: "4,294,967,295 for none", the sum "0 on a refusal"
 abbrev pub refusal : ℕ → ℕ → Assembly
-refusal code place = record { code = code; place = place; commands = 0; legs = 0; fewest = replicate 33 none }
+refusal code place = record { code = code; place = place; commands = 0; legs = 0; sum = 0; fewest = replicate 33 none }
 
 -- codes 0, 10 and 11, each at place 0
 abbrev pub resultOf : Answer → Assembly
-resultOf a = record { code = a .code; place = 0; commands = a .commands; legs = a .leg-count; fewest = a .fewest }
+resultOf a = record { code = a .code; place = 0; commands = a .commands; legs = a .leg-count; sum = a .sum; fewest = a .fewest }
 
 -- the answer a as result, plan and legs: "Plan bytes and legs past those counts keep what they held."
 pub record Left {E : Type 0} (form : LegForm E) (a : Answer) (room : Room E) (result : Assembly) (room′ : Room E) : Type 0 where
@@ -34,13 +34,14 @@ pub record Left {E : Type 0} (form : LegForm E) (a : Answer) (room : Room E) (re
 pub data Assembles {E : Type 0} (form : LegForm E) (book run : List ℕ) (l : AllLent E) (result : Assembly) (l′ : AllLent E) : Type 0 where
   -- "1, 0: a lent buffer shorter than stated; all untouched"
   short : (LongEnough (allSizes form l) → ⊥) → result ≡ refusal 1 0 → l′ ≡ l → Assembles form book run l result l′
-  -- "then .. 8", with 02 8 or 12: what checking refuses, with its code and place, and table and slots as checking leaves them
+  -- "then .. 8", with 02 8 or 12: what checking refuses, with its code and place, and table, slots and weights as checking
+  -- leaves them
   unaccepted : LongEnough (allSizes form l) → {c : Reading} → Checks book (l .read) c (l′ .read) → (c .code ≡ 0 → ⊥)
       → result ≡ refusal (c .code) (c .place) → l′ .room ≡ l .room → Assembles form book run l result l′
-  -- "9, 0: run isn't exactly one record as above, or a command or mask is outside m or n; table and slots read"
+  -- "9, 0: run isn't exactly one record as above, or a command or mask is outside m or n; table and slots read", with 02 the weights too
   faulty : LongEnough (allSizes form l) → (b : Book) → Checked book (l .read) b (l′ .read) → (RunFormed (deviceOf b) run → ⊥)
       → result ≡ refusal 9 0 → l′ .room ≡ l .room → Assembles form book run l result l′
-  -- "10", "11" and "0": the answer that 01 fixes for the book's device and items and the run
+  -- "10", "11" and "0": the answer that 01 fixes for the book's device, weights and items and the run
   answered : LongEnough (allSizes form l) → (b : Book) → Checked book (l .read) b (l′ .read)
-      → (u : Run) → AllowedRun (deviceOf b) u → runBytes u ≡ run → (a : Answer) → Answers (deviceOf b) (b .items) u a
+      → (u : Run) → AllowedRun (deviceOf b) u → runBytes u ≡ run → (a : Answer) → Answers (deviceOf b) (b .weights) (b .items) u a
       → Left form a (l .room) result (l′ .room) → Assembles form book run l result l′

@@ -19,7 +19,7 @@ use Rattle.assembly.specs.Assembles.{refusal, resultOf}
 
 -- the answer for an accepted book, of the run's bytes
 abbrev pub answerOf : Book → List ℕ → Answer
-answerOf b run = answer (deviceOf b) (b .items) (runOf run)
+answerOf b run = answer (deviceOf b) (b .weights) (b .items) (runOf run)
 
 -- of an accepted book: code 9 for a faulty run, else `fine`
 abbrev pub plannedBy : {A : Type 0} → List ℕ → (ℕ → ℕ → A) → (Answer → A) → Book → A

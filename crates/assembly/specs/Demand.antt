@@ -30,7 +30,8 @@ pub record Ready {E : Type 0} (form : LegForm E) (book run : List ℕ) (l : AllL
 
 -- "the legs written are those of a chain that fits the run, and the plan bytes and both counts in the result are that chain's. Nobody who sends the
 -- whole plan from where a history stands last can get stuck or end anywhere but where that history began .. Every other chain of the book's items
--- that fits the run has at least as many commands as the result counts."
+-- that fits the run has at least as many commands as the result counts."; 02: "the sum in the result is the chain's, as both counts are, and the
+-- least-cost claim is now about that sum; equal sums go to the lower item list"
 pub record Planned {E : Type 0} (form : LegForm E) (b : Book) (u : Run) (r : Assembly) (room : Room E) : Type 0 where
   pub items : List ℕ
   pub chain : Chain (deviceOf b) u (b .items) (last u) items
@@ -39,8 +40,9 @@ pub record Planned {E : Type 0} (form : LegForm E) (b : Book) (u : Run) (r : Ass
   pub commands-counted : r .commands ≡ length (planOf (b .items) items)
   pub legs-counted : r .legs ≡ length items
   pub undoes : Undoes (deviceOf b) u (take (r .commands) (room .plan))
-  pub fewest-commands : (ys : List ℕ) → Chain (deviceOf b) u (b .items) (last u) ys → r .commands ≤ cost (b .items) ys
-  pub lowest : (ys : List ℕ) → Chain (deviceOf b) u (b .items) (last u) ys → cost (b .items) ys ≡ r .commands → LexLe items ys
+  pub sum-is : r .sum ≡ cost (b .weights) (b .items) items
+  pub least-sum : (ys : List ℕ) → Chain (deviceOf b) u (b .items) (last u) ys → r .sum ≤ cost (b .weights) (b .items) ys
+  pub lowest : (ys : List ℕ) → Chain (deviceOf b) u (b .items) (last u) ys → cost (b .weights) (b .items) ys ≡ r .sum → LexLe items ys
 
 pub record Demand {E : Type 0} (form : LegForm E) (book run : List ℕ) (l : AllLent E) (r : Assembly) (l′ : AllLent E) : Type 0 where
   -- "Where assembling gives a plan, the book is accepted, .."
@@ -51,5 +53,5 @@ pub record Demand {E : Type 0} (form : LegForm E) (book run : List ℕ) (l : All
       × ((ys : List ℕ) → Chain (deviceOf b) u (b .items) (last u) ys → ⊥)))
   -- "where the first two hold and a chain does fit, it gives a plan"
   pub gives-plan : (b : Book) (u : Run) → Ready form book run l b u → (ys : List ℕ) → Chain (deviceOf b) u (b .items) (last u) ys → r .code ≡ 0
-  -- on 0 and 11 "the fewest commands for each of the 33 points"
-  pub numbers : ((r .code ≡ 0) ⊎ (r .code ≡ 11)) → (b : Book) × ((u : Run) × Given book run b u × Numbers (deviceOf b) u (b .items) (r .fewest))
+  -- on 0 and 11 the least sum for each of the 33 points
+  pub numbers : ((r .code ≡ 0) ⊎ (r .code ≡ 11)) → (b : Book) × ((u : Run) × Given book run b u × Numbers (deviceOf b) (b .weights) u (b .items) (r .fewest))

@@ -9,6 +9,7 @@ use lib.ListN.{getD, length, replicate}
 use Rattle.base.specs.Tests.{both}
 use Rattle.base.specs.Bounded.{all, least, seek}
 use Rattle.base.specs.Masks.{inside}
+use Rattle.reversal.specs.Weights.{sumOf}
 use Rattle.reversal.specs.Chains.{none}
 use Rattle.reversal.specs.Computed.Least.{Links, via, leasts, leastAt, begins}
 use Rattle.runs.specs.Computed.{commandOf}
@@ -23,9 +24,9 @@ fitsAt F s sets a j =
     both (leb (kOf F a) j)
     (both (sameAt F s a j (kOf F a)) (both (inside (getD sets j 0) (F a .phi)) (inside (getD sets (j - kOf F a) 0) (F a .psi))))
 
--- the links by the numbers of reverse commands
-abbrev pub linksOf : Items → List ℕ → List ℕ → ℕ → Links
-linksOf F s sets count = record { count = count; k = kOf F; price = λ a. length (F a .reverse); fit = fitsAt F s sets; top = none }
+-- the links by the sums of the reverse commands' weights
+abbrev pub linksOf : Items → List ℕ → List ℕ → List ℕ → ℕ → Links
+linksOf F ws s sets count = record { count = count; k = kOf F; price = λ a. sumOf ws (F a .reverse); fit = fitsAt F s sets; top = none }
 
 -- of the first count items: the least number by way of one of them, and the lowest that has it
 pub record Chosen (R : Links) (ns : List ℕ) (j count number item : ℕ) : Type 0 where
@@ -40,7 +41,7 @@ pub record Chosen (R : Links) (ns : List ℕ) (j count number item : ℕ) : Type
 abbrev pub Moving : Items → ℕ → Type 0
 Moving F count = (a : ℕ) → a < count → 1 ≤ kOf F a
 
--- the numbers of the points 0 to j, the links' top above, and for each point that has one the lowest item that begins a chain with so few
+-- the numbers of the points 0 to j, the links' top above, and for each point that has one the lowest item that begins a chain with it
 pub record Numbered (R : Links) (j : ℕ) (numbers items : List ℕ) : Type 0 where
   pub low : j ≤ 32
   pub fewest : numbers ≡ leasts R j ++ replicate (32 - j) (R .top)

@@ -17,18 +17,19 @@ pub const PLAN_LEN: usize = 256;
 
 pub const LEGS_LEN: usize = 96;
 
-// What assembling answers: the code and its place; the numbers of commands and legs, each 0 on a refusal; the fewest commands for each of the 33
-// points, 65,535 where there is no chain.
+// What assembling answers: the code and its place; the numbers of commands and legs and the sum of the commands' weights, each 0 on a refusal; the
+// least sum for each of the 33 points, 4,294,967,295 where there is no chain.
 #[repr(C)]
 pub struct Assembly {
     pub code: u64,
     pub place: u64,
     pub commands: u64,
     pub legs: u64,
-    pub fewest: [u16; 33],
+    pub sum: u64,
+    pub fewest: [u32; 33],
 }
 
-// A refusal, whose counts are 0 and whose numbers are all 65,535.
+// A refusal, whose counts and sum are 0 and whose numbers are all 4,294,967,295.
 pub fn refused(code: u64, place: u64) -> Assembly
     ensures { λ r. ⌜ r ≡ refusal code place ⌝ }
 {
@@ -37,22 +38,24 @@ pub fn refused(code: u64, place: u64) -> Assembly
         place: place,
         commands: 0,
         legs: 0,
-        fewest: [65535u16; 33],
+        sum: 0,
+        fewest: [4294967295u32; 33],
     }
 }
 
-// Checks the book, and writes the plan and the legs of the chain from the run's last point with the fewest commands.
+// Checks the book, and writes the plan and the legs of the chain from the run's last point with the least sum.
 pub fn assemble(
     book: &[u8],
     run: &[u8],
     table: &mut [u64],
     slots: &mut [u8],
+    weights: &mut [u16],
     plan: &mut [u8],
     legs: &mut [u8],
 ) -> Assembly
     ensures { λ r. ⌜ AssembleAs inBytes (now (book .entry)) (now (run .entry))
-        (allLent (lent (now (table .entry)) (now (slots .entry))) (now (plan .entry)) (now (legs .entry))) r
-        (allLent (lent (now (table .exit)) (now (slots .exit))) (now (plan .exit)) (now (legs .exit))) ⌝ }
+        (allLent (lent (now (table .entry)) (now (slots .entry)) (now (weights .entry))) (now (plan .entry)) (now (legs .entry))) r
+        (allLent (lent (now (table .exit)) (now (slots .exit)) (now (weights .exit))) (now (plan .exit)) (now (legs .exit))) ⌝ }
 {
     if plan.len() < PLAN_LEN {
         return refused(1, 0);
@@ -60,7 +63,7 @@ pub fn assemble(
     if legs.len() < LEGS_LEN {
         return refused(1, 0);
     }
-    let found = checker::check(book, table, slots);
+    let found = checker::check(book, table, slots, weights);
     if found.code != 0 {
         return refused(found.code, found.place);
     }
@@ -72,13 +75,15 @@ pub fn assemble(
         return refused(10, 0);
     }
     let i = runs::last_point(run);
-    let points = points_of(slots, found.items, run, &sets, i);
-    if points.fewest[i as usize] == 65535 {
+    let points = points_of(slots, weights, found.items, run, &sets, i);
+    let sum = points.fewest[i as usize];
+    if sum == 4294967295 {
         return Assembly {
             code: 11,
             place: 0,
             commands: 0,
             legs: 0,
+            sum: 0,
             fewest: points.fewest,
         };
     }
@@ -88,6 +93,7 @@ pub fn assemble(
         place: 0,
         commands: counts.commands,
         legs: counts.legs,
+        sum: sum as u64,
         fewest: points.fewest,
     }
 }

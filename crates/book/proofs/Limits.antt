@@ -1,10 +1,12 @@
--- The tests of 01's limits pass exactly where a device, a move or an item is allowed. Assumes nothing.
+-- The tests of 01's and 02's limits pass exactly where a device, a weight, a move or an item is allowed. Assumes nothing.
 use mathlib.Core.Path.{_≡_, refl, sym, ap, _∙_}
 use mathlib.Core.Bool.{Bool, true, false, not, false≢true}
+use mathlib.Core.List.{List, [], _∷_}
 use Prim.Native.Nat.{ℕ, _≤_}
 use native.Mathlib.Omega.{arith}
 use borrow.Author.Tests.{not-false}
 use lib.ListN.{length}
+use Rattle.base.specs.Lists.{Each}
 use Rattle.base.specs.Tests.{pick}
 use Rattle.base.specs.Compare.{less, atMost, same}
 use Rattle.base.specs.Masks.{clearFrom}
@@ -12,8 +14,9 @@ use Rattle.base.proofs.Compare.{less-off, most-off, same-off}
 use Rattle.base.proofs.Picks.{tests}
 use Rattle.reversal.specs.Device.{Device}
 use Rattle.reversal.specs.Reversal.{Item, AllowedItem}
+use Rattle.reversal.specs.Weights.{AllowedWeight}
 use Rattle.book.specs.Book.{Move, AllowedDevice, AllowedMove}
-use Rattle.book.specs.Limits.{deviceFine, moveFine, countsFine, allBelow, fieldsFine}
+use Rattle.book.specs.Limits.{deviceFine, weightFine, weightsFine, moveFine, countsFine, allBelow, fieldsFine}
 use Rattle.book.proofs.Fields.{all-of, all-on, clear-of, clear-on}
 
 -- a test that must fail, and what is tested after it
@@ -53,6 +56,37 @@ module _ (n m : ℕ) where
       go : (t : Bool) → deviceFine n m ≡ t → not t ≡ true
       go true e = absurd (f (device-on e))
       go false e = refl
+
+-- ---- weights
+module _ (w : ℕ) where
+  pub weight-of : AllowedWeight w → weightFine w ≡ true
+  unfolding weightFine
+  weight-of a = sym (search tests)
+
+  pub weight-on : weightFine w ≡ true → AllowedWeight w
+  unfolding weightFine
+  weight-on e =
+      let (a, e₁) = past (less w 1) _ e in
+      let (b, _) = past (less 1000 w) _ e₁ in
+      record { low = less-off w 1 a; high = less-off 1000 w b }
+
+pub weights-of : (ws : List ℕ) → Each AllowedWeight ws → weightsFine ws ≡ true
+unfolding weightsFine
+weights-of [] h = refl
+weights-of (w ∷ ws) h =
+    let k : weightFine w ≡ true = weight-of w (h .0) in
+    let e : true ≡ weightsFine ws = sym (weights-of ws (h .1)) in
+    sym (search tests)
+
+pub weights-on : (ws : List ℕ) → weightsFine ws ≡ true → Each AllowedWeight ws
+unfolding weightsFine pick
+weights-on [] e = tt
+weights-on (w ∷ ws) e = go (weightFine w) refl e (weights-on ws)
+  where
+    go : (t : Bool) → weightFine w ≡ t → pick t (weightsFine ws) false ≡ true → (weightsFine ws ≡ true → Each AllowedWeight ws)
+        → AllowedWeight w × Each AllowedWeight ws
+    go true l e ih = (weight-on w l, ih e)
+    go false l e ih = absurd (false≢true e)
 
 -- ---- a move
 module _ (n m : ℕ) (x : Move) where

@@ -1,5 +1,5 @@
--- 01's limits of a device, a move and an item, computed: the tests that reading, writing and every other call make. proofs/Limits ties them to
--- `AllowedDevice`, `AllowedMove` and `AllowedItem`, both ways. Assumes nothing: these are definitions.
+-- 01's and 02's limits of a device, a weight, a move and an item, computed: the tests that reading, writing and every other call make. proofs/Limits
+-- ties them to `AllowedDevice`, `AllowedWeight`, `AllowedMove` and `AllowedItem`, both ways. Assumes nothing: these are definitions.
 use mathlib.Core.Bool.{Bool, true, false, not}
 use mathlib.Core.List.{List, [], _∷_}
 use Prim.Native.Nat.{ℕ}
@@ -12,6 +12,15 @@ use Rattle.book.specs.Book.{Move}
 -- n and m
 unfoldable pub deviceFine : ℕ → ℕ → Bool
 deviceFine n m = pick (less n 1) false (pick (less 64 n) false (pick (less m 1) false (pick (less 32 m) false true)))
+
+-- a weight
+unfoldable pub weightFine : ℕ → Bool
+weightFine w = pick (less w 1) false (pick (less 1000 w) false true)
+
+-- each of the weights
+unfoldable pub weightsFine : List ℕ → Bool
+weightsFine [] = true
+weightsFine (w ∷ ws) = pick (weightFine w) (weightsFine ws) false
 
 -- a move's state, command and mask, for a device with n states and m commands
 unfoldable pub moveFine : ℕ → ℕ → Move → Bool

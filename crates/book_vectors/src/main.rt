@@ -15,48 +15,83 @@ fn pattern_slots(slots: &mut [u8]) {
     }
 }
 
+// The weights before a call: 40,000 + index at each.
+fn pattern_weights(weights: &mut [u16]) {
+    for i in 0..weights.len() {
+        weights[i] = (40000 + i % 1000) as u16;
+    }
+}
+
 fn print_reading(r: Reading) {
     let row = [r.code, r.place, r.n, r.m, r.items];
     vectors::print_numbers(&row, 5);
 }
 
-fn read_case(book: &[u8], table: &mut [u64], slots: &mut [u8]) {
+fn read_case(book: &[u8], table: &mut [u64], slots: &mut [u8], weights: &mut [u16]) {
     pattern_table(table);
     pattern_slots(slots);
-    print_reading(reader::read(book, table, slots));
+    pattern_weights(weights);
+    print_reading(reader::read(book, table, slots, weights));
 }
 
-fn check_case(book: &[u8], table: &mut [u64], slots: &mut [u8]) {
+fn check_case(book: &[u8], table: &mut [u64], slots: &mut [u8], weights: &mut [u16]) {
     pattern_table(table);
     pattern_slots(slots);
-    print_reading(checker::check(book, table, slots));
+    pattern_weights(weights);
+    print_reading(checker::check(book, table, slots, weights));
 }
 
 // One case: reading, then checking with the buffers as before reading.
-fn run_case(book: &[u8], table: &mut [u64], slots: &mut [u8]) {
-    read_case(book, table, slots);
-    check_case(book, table, slots);
+fn run_case(book: &[u8], table: &mut [u64], slots: &mut [u8], weights: &mut [u16]) {
+    read_case(book, table, slots, weights);
+    check_case(book, table, slots, weights);
     vectors::print_numbers(table, 40);
     vectors::print_bytes(slots, 102);
+    vectors::print_words(weights, 32);
 }
 
 // The case with buffers of the lengths that its first byte names.
 fn run_with(kind: u64, book: &[u8]) {
     let mut table = [0u64; 2053];
     let mut slots = [0u8; 2181];
+    let mut weights = [0u16; 37];
     if kind == 1 {
-        run_case(book, &mut table[..2047], &mut slots[..2176]);
+        run_case(
+            book,
+            &mut table[..2047],
+            &mut slots[..2176],
+            &mut weights[..32],
+        );
         return;
     }
     if kind == 2 {
-        run_case(book, &mut table[..2048], &mut slots[..2175]);
+        run_case(
+            book,
+            &mut table[..2048],
+            &mut slots[..2175],
+            &mut weights[..32],
+        );
         return;
     }
     if kind == 3 {
-        run_case(book, &mut table, &mut slots);
+        run_case(book, &mut table, &mut slots, &mut weights);
         return;
     }
-    run_case(book, &mut table[..2048], &mut slots[..2176]);
+    if kind == 4 {
+        run_case(
+            book,
+            &mut table[..2048],
+            &mut slots[..2176],
+            &mut weights[..31],
+        );
+        return;
+    }
+    run_case(
+        book,
+        &mut table[..2048],
+        &mut slots[..2176],
+        &mut weights[..32],
+    );
 }
 
 // All cases of the file: a byte, a two-byte length, the book.

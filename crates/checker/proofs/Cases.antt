@@ -7,6 +7,7 @@ use Prim.Native.Nat.{ℕ, _<_}
 use lib.Dec.{lit<}
 use lib.ListN.{length, take, drop}
 use Rattle.base.specs.Lists.{Each}
+use Rattle.base.specs.Sizes.{LongEnough}
 use Rattle.base.specs.Tests.{pick, both, imp}
 use Rattle.base.specs.Compare.{less, atMost, same, differ}
 use Rattle.base.specs.Bounded.{all, any, union, seek}
@@ -16,23 +17,36 @@ use Rattle.reversal.specs.Device.{Device}
 use Rattle.reversal.specs.Reversal.{Item, Accepted}
 use Rattle.reversal.specs.Twelve.{made, itemsQ, itemQ2, itemQ3, itemQ4}
 use Rattle.reversal.specs.Computed.Sets.{after, able, reach, runsBack, ends, startOk, reverses, startUsed, effective, accepts}
-use Rattle.reversal.proofs.Cases.{twelve}
-use Rattle.book.specs.Book.{Book, outcomeOf, frame}
-use Rattle.book.specs.Parse.{parse, cutAfter, scan, kindOf, step, moveOf, itemOf, movesIn, itemsIn}
-use Rattle.book.specs.Limits.{deviceFine, moveFine, countsFine, allBelow, fieldsFine}
+use Rattle.reversal.specs.Weighted.{dear, itemsDear, itemsEven}
+use Rattle.reversal.proofs.Cases.{twelve, weighted}
+use Rattle.book.specs.Book.{Book, outcomeOf, frame, twoBytes, allOne, weightsRecs}
+use Rattle.book.specs.Parse.{parse, cutAfter, scan, kindOf, step, moveOf, itemOf, weightsOf, weightsIn, movesIn, itemsIn}
+use Rattle.book.specs.Limits.{deviceFine, weightFine, weightsFine, moveFine, countsFine, allBelow, fieldsFine}
 use Rattle.book.specs.Parse.Parsed.{Ok}
-use Rattle.book.specs.Example.{bookQ, bytesQ}
+use Rattle.book.specs.Lent.{Lent, sizes, WeightsRead}
+use Rattle.book.specs.Example.{bookQ, bytesQ, bookDear, bytesDear, bookEven, bytesEven}
 use Rattle.book.proofs.Fields.{all-on}
 use Rattle.book.proofs.Reading.{parse-fine}
-use Rattle.book.proofs.Example.{bytes-bookQ, allowed-bookQ, device-bookQ}
+use Rattle.book.proofs.Example.{bytes-bookQ, allowed-bookQ, device-bookQ, bytes-bookDear, allowed-bookDear, device-bookDear, bytes-bookEven, allowed-bookEven, device-bookEven}
+use Rattle.reader.specs.declared.Reading.{Reading}
 use Rattle.reader.specs.Reads.{refusal}
-use Rattle.reader.proofs.Cases.{bytes-Q}
+use Rattle.reader.proofs.Cases.{bytes-Q, bytes-Dear}
 use Rattle.checker.specs.Reasons.{codeOf}
-use Rattle.checker.specs.Checks.{AcceptedBook, placeOf}
+use Rattle.checker.specs.Checks.{AcceptedBook, placeOf, Checks}
 use Rattle.checker.specs.Cases.{Judges, QChecked}
 use Rattle.checker.specs.Contract.{wrongItem, reasonFor, reasonIn}
 use Rattle.checker.proofs.Exactly.{first-wrong}
 use Rattle.checker.proofs.Unique.{checked-fine, checked-wrong}
+
+-- the items of the two cases with weights
+pub accepted-Dear : AcceptedBook bytesDear bookDear
+accepted-Dear =
+    record { allowed = allowed-bookDear; bytes = bytes-bookDear; accepted = subst (λ (d : Device). Each (Accepted d) itemsDear) (sym device-bookDear) (weighted .accepted) }
+
+pub accepted-Even : AcceptedBook bytesEven bookEven
+accepted-Even =
+    let (two, (three, _)) = weighted .accepted in
+    record { allowed = allowed-bookEven; bytes = bytes-bookEven; accepted = subst (λ (d : Device). Each (Accepted d) itemsEven) (sym device-bookEven) (three, (two, tt)) }
 
 pub accepted-Q : AcceptedBook bytesQ bookQ
 accepted-Q =
@@ -46,15 +60,26 @@ refused-at s b h e l =
     let (a, same) = parse-fine s b bytes e in
     record { result = λ x long. checked-wrong bytes x long a same (first-wrong b a l) .0 }
 
+-- and the weights are the book's
+filled-at : (s : List ℕ) (b : Book) → allBelow 256 s ≡ true → parse s ≡ Ok b → wrongItem b < length (b .items)
+    → {l : Lent} {r : Reading} {l′ : Lent} → Checks s l r l′ → LongEnough (sizes l) → WeightsRead b (l .weights) (l′ .weights)
+filled-at s b h e l x long =
+    let bytes = all-on 256 s h in
+    let (a, same) = parse-fine s b bytes e in
+    checked-wrong bytes x long a same (first-wrong b a l) .1 .read .weights-read
+
 -- Q's book with the item of Q2 in place of item 1, whose record stands from 129 to 153, and with others behind its items
 bookQ2 : Book
-bookQ2 = record { n = 3; m = 3; moves = bookQ .moves; items = take 1 (bookQ .items) ++ (itemQ2 ∷ drop 2 (bookQ .items)) }
+bookQ2 = record { n = 3; m = 3; weights = bookQ .weights; moves = bookQ .moves; items = take 1 (bookQ .items) ++ (itemQ2 ∷ drop 2 (bookQ .items)) }
+
+dearer : Book
+dearer = record { n = 3; m = 3; weights = dear; moves = bookQ .moves; items = itemsDear ++ (itemQ3 ∷ []) }
 
 longer : List Item → Book
-longer xs = record { n = 3; m = 3; moves = bookQ .moves; items = bookQ .items ++ xs }
+longer xs = record { n = 3; m = 3; weights = bookQ .weights; moves = bookQ .moves; items = bookQ .items ++ xs }
 
 pub q-checked : QChecked
-unfolding pick both imp less atMost same differ all any union seek member clearFrom bytesLe frame outcomeOf after able reach runsBack ends startOk reverses startUsed effective accepts wrongItem reasonFor parse cutAfter scan kindOf step deviceFine moveFine countsFine allBelow fieldsFine moveOf itemOf movesIn itemsIn bookQ2 longer
+unfolding pick both imp less atMost same differ all any union seek member clearFrom bytesLe frame outcomeOf after able reach runsBack ends startOk reverses startUsed effective accepts wrongItem reasonFor parse cutAfter scan kindOf step deviceFine moveFine countsFine allBelow fieldsFine moveOf itemOf weightsIn movesIn itemsIn weightsOf weightFine weightsFine twoBytes allOne weightsRecs bookQ2 longer dearer
 q-checked =
     record {
       q1 = record { result = λ x long. checked-fine bytes-Q x long accepted-Q .0 };
@@ -65,4 +90,7 @@ q-checked =
       no-psi = refused-at _ (longer (made (1 ∷ []) (0 ∷ []) 7 0 ∷ [])) refl refl (lit< tt);
       eight-first = refused-at _ (longer (itemQ3 ∷ itemQ4 ∷ [])) refl refl (lit< tt);
       twelve-first = refused-at _ (longer (itemQ4 ∷ itemQ3 ∷ [])) refl refl (lit< tt);
+      dear = record { result = λ x long. checked-fine bytes-Dear x long accepted-Dear .0 };
+      dear-wrong = refused-at _ dearer refl refl (lit< tt);
+      dear-filled = λ x long. filled-at _ dearer refl refl (lit< tt) x long .front;
     }

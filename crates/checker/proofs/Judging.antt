@@ -33,7 +33,7 @@ sizes (x ∷ xs) ys =
 place-is : {s : List ℕ} {b : Book} {i at : ℕ} → ItemStands s b i at → at ≡ placeOf b i
 place-is {s} {b} {i} {at} h =
     let xs = b .items in
-    let before : Book = record { n = b .n; m = b .m; moves = b .moves; items = take i xs } in
+    let before : Book = record { n = b .n; m = b .m; weights = b .weights; moves = b .moves; items = take i xs } in
     let whole = ap (λ (ys : List Item). length (framed (map itemRec ys))) (sym (take-append-drop i xs)) in
     omega (
       arith,

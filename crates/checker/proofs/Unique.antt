@@ -1,9 +1,9 @@
 -- What 01 and 02 say of checking leaves one answer only: the result and the buffers. So it answers 0 exactly on accepted books, and 8 or 12 exactly
 -- where a book keeps the rules and some item is not accepted, the first such one being at the place, with its own reason. Assumes nothing.
 use mathlib.Core.Path.{_≡_, refl, sym, ap, ap₂, _∙_, subst}
-use mathlib.Core.Logic.{_↔_}
+use mathlib.Core.Logic.{inl, inr, _↔_}
 use mathlib.Core.List.{List}
-use Prim.Native.Nat.{ℕ, _≤_, _<_}
+use Prim.Native.Nat.{ℕ, _<_}
 use native.Mathlib.Omega.{arith}
 use Rattle.base.specs.Lists.{Bytes}
 use Rattle.base.specs.Sizes.{LongEnough}
@@ -14,7 +14,7 @@ use Rattle.reversal.specs.Reversal.{Item, Accepted}
 use Rattle.reversal.specs.Chains.{absent, item}
 use Rattle.book.specs.Book.{Book, deviceOf, AllowedBook, bytesOf}
 use Rattle.book.specs.Lent.{Lent, sizes}
-use Rattle.book.proofs.Codes.{refusal-codes}
+use Rattle.book.proofs.Codes.{ReadCode, refusal-codes}
 use Rattle.book.proofs.Unique.{one-book}
 use Rattle.reader.specs.declared.Reading.{Reading}
 use Rattle.reader.specs.Reads.{refusal, done, Filled, Reads}
@@ -48,17 +48,22 @@ over-seven : (why : Reason) → 7 < codeOf why
 over-seven NoReversePlan = omega arith
 over-seven NotEffective = omega arith
 
+-- no reason has a code of reading
+no-reading : (why : Reason) → ReadCode (codeOf why) → ⊥
+no-reading why (inl l) = omega (arith, over-seven why)
+no-reading NoReversePlan (inr e) = omega arith
+no-reading NotEffective (inr e) = omega arith
+
 -- the first wrong item is one, and so is its reason
 same-wrong : (b : Book) {i j : ℕ} {why other : Reason} → WrongFor b i why → WrongFor b j other → (i ≡ j) × (why ≡ other)
 same-wrong b {i} {j} {why} {other} f g =
     let e : i ≡ j = one-wrong b (f .first) (g .first) in
     (e, due-unique (deviceOf b) (item (b .items) j) why other (subst (λ (k : ℕ). Due why (deviceOf b) (item (b .items) k)) e (f .due)) (g .due))
 
--- reading has no code above 7
-read-codes : {book : List ℕ} {l : Lent} {r : Reading} {l′ : Lent} → Reads book l r l′ → r .code ≤ 7
-read-codes (reads.short a e k) = omega (arith, ap (λ (x : Reading). x .code) e)
-read-codes {book} (reads.faulty l f e k) = omega (arith, ap (λ (x : Reading). x .code) e, refusal-codes book _ _ f)
-read-codes (reads.fine b f e) = omega (arith, ap (λ (x : Reading). x .code) e)
+read-codes : {book : List ℕ} {l : Lent} {r : Reading} {l′ : Lent} → Reads book l r l′ → ReadCode (r .code)
+read-codes (reads.short a e k) = inl (omega (arith, ap (λ (x : Reading). x .code) e))
+read-codes {book} (reads.faulty l f e k) = subst (λ (x : Reading). ReadCode (x .code)) (sym e) (refusal-codes book _ _ f .1)
+read-codes (reads.fine b f e) = inl (omega (arith, ap (λ (x : Reading). x .code) e))
 
 was-read : {book : List ℕ} {l : Lent} {r : Reading} {l′ l″ : Lent} {b : Book} → Bytes book → Reads book l r l′ → (r .code ≡ 0 → ⊥) → Filled book l b l″ → ⊥
 was-read {b = b} h x n f = n (read-zero↔ h x .1 (f .long, (b, f .allowed, f .bytes)))
@@ -69,19 +74,20 @@ this-book {b = b} {b′ = b′} a same f = one-book b′ b (f .allowed) a (f .by
 pub accepted-book : {book : List ℕ} {l : Lent} {b : Book} {l′ : Lent} → Checked book l b l′ → AcceptedBook book b
 accepted-book k = record { allowed = k .filled .allowed; bytes = k .filled .bytes; accepted = k .accepted }
 
--- the codes that checking answers: "Reading stops after 7"; then the reasons'
+-- the codes that checking answers: "Reading stops after 7", with 02's 13; then the reasons'
 pub data CheckCode : ℕ → Type 0 where
-  by-reading : {code : ℕ} → code ≤ 7 → CheckCode code
+  by-reading : {code : ℕ} → ReadCode code → CheckCode code
   by-item : (why : Reason) → CheckCode (codeOf why)
 
 pub check-codes : {book : List ℕ} {l : Lent} {r : Reading} {l′ : Lent} → Checks book l r l′ → CheckCode (r .code)
 check-codes (unread x n) = by-reading (read-codes x)
 check-codes (wrong b f {why = why} w e) = rw e (by-item why)
-check-codes (fine b k e) = rw e (by-reading {code = 0} (omega arith))
+check-codes (fine b k e) = rw e (by-reading {code = 0} (inl (omega arith)))
 
 -- and so never that of assembling's "no chain"
 pub not-eleven : {code : ℕ} → CheckCode code → code ≡ 11 → ⊥
-not-eleven (by-reading l) e = omega arith
+not-eleven (by-reading (inl l)) e = omega arith
+not-eleven (by-reading (inr l)) e = omega arith
 not-eleven (by-item NoReversePlan) e = omega arith
 not-eleven (by-item NotEffective) e = omega arith
 
@@ -149,7 +155,7 @@ module _ {book : List ℕ} {l : Lent} {r : Reading} {l′ : Lent} (h : Bytes boo
     wrong-for why z = go x
       where
         go : Checks book l r l′ → LongEnough (sizes l) × ((b : Book) × AllowedBook b × (bytesOf b ≡ book) × ((i : ℕ) × WrongFor b i why))
-        go (unread y n) = absurd (omega (arith, read-codes y, over-seven why))
+        go (unread y n) = absurd (no-reading why (subst ReadCode z (read-codes y)))
         go (wrong b f {i} {why = other} w e) =
             let q : other ≡ why = same-code other why (sym (code-of e) ∙ z) in
             (f .long, (b, f .allowed, f .bytes, (i, subst (λ (c : Reason). WrongFor b i c) q w)))

@@ -1,4 +1,5 @@
--- Q's book checked, as bytes, with literal numbers: accepted; with the item of Q2 in place of item 1; with the items of Q3 and Q4 behind its items.
+-- Q's book checked, as bytes, with literal numbers: accepted; with the item of Q2 in place of item 1; with the items of Q3 and Q4 behind its items;
+-- and its device with weights, whose items stand 10 bytes further on.
 -- Assumes nothing: these are definitions.
 use mathlib.Core.Path.{_≡_}
 use mathlib.Core.List.{List, [], _∷_, _++_}
@@ -9,7 +10,7 @@ use Rattle.reversal.specs.Reversal.{Item}
 use Rattle.reversal.specs.Twelve.{made, itemQ2, itemQ3, itemQ4}
 use Rattle.book.specs.Book.{frame, itemRec}
 use Rattle.book.specs.Lent.{Lent, sizes}
-use Rattle.book.specs.Example.{bytesQ}
+use Rattle.book.specs.Example.{bytesQ, bytesDear}
 use Rattle.reader.specs.declared.Reading.{Reading}
 use Rattle.checker.specs.Checks.{Checks}
 
@@ -37,3 +38,9 @@ pub record QChecked : Type 0 where
   -- 02: "judged item by item beside 8": of two wrong items the first decides
   pub eight-first : Judges (bytesQ ++ (recorded itemQ3 ++ recorded itemQ4)) (record { code = 8; place = 225; n = 0; m = 0; items = 0 })
   pub twelve-first : Judges (bytesQ ++ (recorded itemQ4 ++ recorded itemQ3)) (record { code = 12; place = 225; n = 0; m = 0; items = 0 })
+  -- the book with weights, and with the item of Q3 behind its items, whose record stands at 165
+  pub dear : Judges bytesDear (record { code = 0; place = 0; n = 3; m = 3; items = 2 })
+  pub dear-wrong : Judges (bytesDear ++ recorded itemQ3) (record { code = 8; place = 165; n = 0; m = 0; items = 0 })
+  -- 02, of the weights: "filled wherever the table is", on 8 too
+  pub dear-filled : {l : Lent} {r : Reading} {l′ : Lent} → Checks (bytesDear ++ recorded itemQ3) l r l′ → LongEnough (sizes l)
+      → take 3 (l′ .weights) ≡ 300 ∷ 2 ∷ 1 ∷ []

@@ -27,7 +27,7 @@ pub record AcceptedBook (book : List ℕ) (b : Book) : Type 0 where
 
 -- the offset of item i's record: what stands before it is the book with the items before it
 abbrev pub placeOf : Book → ℕ → ℕ
-placeOf b i = length (bytesOf (record { n = b .n; m = b .m; moves = b .moves; items = take i (b .items) }))
+placeOf b i = length (bytesOf (record { n = b .n; m = b .m; weights = b .weights; moves = b .moves; items = take i (b .items) }))
 
 -- item i is the first wrong one
 abbrev pub FirstWrong : Book → ℕ → Type 0
@@ -48,7 +48,7 @@ pub data Checks (book : List ℕ) (l : Lent) (result : Reading) (l′ : Lent) : 
   -- what reading refuses, as it does
   unread : Reads book l result l′ → (result .code ≡ 0 → ⊥) → Checks book l result l′
   -- "8, record's offset: item not accepted; the place is that of the first wrong item; table and slots read"; 02, of 12: "judged item by item beside
-  -- 8; table and slots read": the first item wrong by either rule decides, with its own code
+  -- 8; table and slots read": the first item wrong by either rule decides, with its own code; of the weights: "filled wherever the table is"
   wrong : (b : Book) → Filled book l b l′ → {i : ℕ} {why : Reason} → WrongFor b i why → result ≡ refusal (codeOf why) (placeOf b i)
       → Checks book l result l′
   -- "0, 0: done"

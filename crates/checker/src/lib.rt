@@ -94,11 +94,11 @@ fn code_of(why: Reason) -> u64
 }
 
 // Reads a book, and judges each of its items: the code of the first one that is not accepted, at the place of its record.
-pub fn check(book: &[u8], table: &mut [u64], slots: &mut [u8]) -> Reading
-    ensures { λ r. ⌜ CheckAs (now (book .entry)) (lent (now (table .entry)) (now (slots .entry))) r
-        (lent (now (table .exit)) (now (slots .exit))) ⌝ }
+pub fn check(book: &[u8], table: &mut [u64], slots: &mut [u8], weights: &mut [u16]) -> Reading
+    ensures { λ r. ⌜ CheckAs (now (book .entry)) (lent (now (table .entry)) (now (slots .entry)) (now (weights .entry))) r
+        (lent (now (table .exit)) (now (slots .exit)) (now (weights .exit))) ⌝ }
 {
-    let found = reader::read(book, table, slots);
+    let found = reader::read(book, table, slots, weights);
     if found.code != 0 {
         return found;
     }

@@ -1,5 +1,5 @@
 -- The claims of each call, of any routine that keeps the call's contract. Assumes nothing.
-use mathlib.Core.Path.{_≡_, subst⁻¹, subst₂}
+use mathlib.Core.Path.{_≡_, subst, subst⁻¹, subst₂}
 use mathlib.Core.List.{List}
 use Prim.Native.Nat.{ℕ}
 use prog.Routine.{Routine}
@@ -153,12 +153,12 @@ module _ (ρ : Routine) where
       record { says = weaker report.ended ρ (onReport ReportAs) _ (λ κs a r e c. reports c) always }
 
 -- ---- the worked cases, of any routine that keeps the contract
--- a run of the joint table, whatever bytes it came in
+-- a run that was worked out, whatever bytes it came in
 worked-run : {E : Type 0} (form : LegForm E) {book run : List ℕ} {l : AllLent E} {r : Assembly} {l′ : AllLent E} → Assembles form book run l r l′
     → AssemblesWorked form book run l r l′
-worked-run form {l = l} {r} {l′} x =
+worked-run form {book = book} {l = l} {r} {l′} x =
     record {
-      run-of = λ u a give e f long. give .left (subst₂ (λ (y z : List ℕ). Assembles form y z l r l′) e f x) long;
+      run-of = λ u a give e long. give .left (subst (λ (y : List ℕ). Assembles form book y l r l′) e x) long;
       refused = λ code place gives long. gives .left x long;
     }
 

@@ -4,6 +4,7 @@ use mathlib.Core.Path.{_≡_, refl, subst}
 use mathlib.Core.Logic.{_↔_}
 use mathlib.Core.List.{List}
 use Prim.Native.Nat.{ℕ, _+_, _-_, _*_, _≤_, _<_, zero-le}
+use native.Mathlib.Omega.{arith}
 use lib.Dec.{T}
 use lib.ListN.{length, getD, take, drop}
 use Rattle.base.specs.Sets.{In, NoBitFrom}
@@ -12,9 +13,10 @@ use Rattle.base.specs.Tables.{every, byRule}
 use Rattle.reversal.specs.Device.{Device, Proper, tabled}
 use Rattle.reversal.specs.Reversal.{Item, Executable, EndsIn, Reverses, Effective, Accepted, Returns}
 use Rattle.reversal.specs.Runs.{Run, AllowedRun, last, Possible}
-use Rattle.reversal.specs.Chains.{Fits, Chain, planOf, Undoes}
+use Rattle.reversal.specs.Chains.{Fits, Chain, planOf, cost, Undoes}
 use Rattle.reversal.specs.Answers.{Allowed, Answer, Answers, Numbers}
 use Rattle.reversal.specs.Twelve.{Twelve}
+use Rattle.reversal.specs.Weighted.{Weighted}
 use Rattle.reversal.specs.Computed.Sets.{accepts}
 use Rattle.reversal.specs.Computed.Beliefs.{belief}
 use Rattle.reversal.specs.Computed.Assembly.{fits, numbers, answer}
@@ -24,8 +26,8 @@ use Rattle.reversal.proofs.Effective.{not-both}
 use Rattle.reversal.proofs.Histories.{possible↔, percept-states}
 use Rattle.reversal.proofs.Fitting.{fits↔, fits-possible}
 use Rattle.reversal.proofs.EndToEnd.{chain-undoes}
-use Rattle.reversal.proofs.Assembling.{numbers-right, answer-right, answers-unique}
-use Rattle.reversal.proofs.Cases.{twelve}
+use Rattle.reversal.proofs.Assembling.{cost-most, numbers-right, answer-right, answers-unique}
+use Rattle.reversal.proofs.Cases.{twelve, weighted}
 use Rattle.book.specs.Book.{Book, bytesOf, WellFormed}
 use Rattle.book.specs.Lent.{Lent}
 use Rattle.book.specs.Example as book-example
@@ -166,17 +168,22 @@ pub fitting-possible : (d : Device) (r : Run) (x : Item) (j : ℕ)
     × ((s : ℕ) → Possible d r (j - length (x .forward)) s → In (x .psi) s))
 fitting-possible = fits-possible
 
--- 3. each of the 33 numbers is the least over all chains from its point, or 65,535 exactly where there is none
-pub fewest : (d : Device) (items : List Item) (r : Run) → Allowed d items r → Numbers d r items (numbers d r items)
-fewest = numbers-right
+-- 3. each of the 33 numbers is the least sum over all chains from its point, or 4,294,967,295 exactly where there is none
+pub least-sums : (d : Device) (ws : List ℕ) (items : List Item) (r : Run) → Allowed d ws items r → Numbers d ws r items (numbers d ws r items)
+least-sums = numbers-right
+
+-- which no chain's sum comes near: 32 points, at most 8 commands for each, of weight 1,000 at most
+pub far-below : (d : Device) (ws : List ℕ) (items : List Item) (r : Run) → Allowed d ws items r → (xs : List ℕ) (j : ℕ) → j ≤ last r
+    → Chain d r items j xs → cost ws items xs ≤ 256000
+far-below d ws items r ok xs j l c = omega (arith, cost-most d ws items r ok xs j c, ok .run .short)
 
 -- 4. end to end: the plan of every chain that fits the run undoes it, whichever outcomes are taken
 pub end-to-end : (d : Device) (r : Run) (items : List Item) → Each (Accepted d) items → (xs : List ℕ) → Chain d r items (last r) xs
     → Undoes d r (planOf items xs)
 end-to-end = chain-undoes
 
--- assembling on values answers as 01 says
-pub answering : (d : Device) (items : List Item) (r : Run) → Allowed d items r → Answers d items r (answer d items r)
+-- assembling on values answers as 01 and 02 say
+pub answering : (d : Device) (ws : List ℕ) (items : List Item) (r : Run) → Allowed d ws items r → Answers d ws items r (answer d ws items r)
 answering = answer-right
 
 -- 02: "The step from a rule to a table is proved for any device rule": one computed test over all entries makes the table the rule's
@@ -191,11 +198,11 @@ ridge-inside = ridge-leads-inside
 pub portable-inside : LeadsInside portable
 portable-inside = portable-leads-inside
 
--- the largest book has 31,110 bytes
-pub longest : (bytes : List ℕ) → WellFormed bytes → length bytes ≤ 31110
-longest bytes (b, a, e) = subst (λ (s : List ℕ). length s ≤ 31110) e (length-book b a)
+-- the largest book has 31,178 bytes: 01's 31,110 and 02's 68
+pub longest : (bytes : List ℕ) → WellFormed bytes → length bytes ≤ 31178
+longest bytes (b, a, e) = subst (λ (s : List ℕ). length s ≤ 31178) e (length-book b a)
 
-pub as-long : (bytes : List ℕ) × WellFormed bytes × (length bytes ≡ 31110)
+pub as-long : (bytes : List ℕ) × WellFormed bytes × (length bytes ≡ 31178)
 as-long = let (b, a, e) = largest-book in (bytesOf b, (b, a, refl), e)
 
 -- ---- the calls, and the same as C and Rust link them
@@ -265,8 +272,8 @@ portable-rule = rule-claims portable-outcomes-routine portable-mask (λ M. porta
 pub printing : ReportClaims report-routine
 printing = report-claims report-routine (λ M. report-met)
 
--- what lies past the first 31,111 and 302 bytes changes nothing
-pub printing-first : {book run book′ run′ text : List ℕ} → take 31111 book ≡ take 31111 book′ → take 302 run ≡ take 302 run′ → Prints book run text
+-- what lies past the first 31,179 and 302 bytes changes nothing
+pub printing-first : {book run book′ run′ text : List ℕ} → take 31179 book ≡ take 31179 book′ → take 302 run ≡ take 302 run′ → Prints book run text
     → Prints book′ run′ text
 printing-first = prints-first
 
@@ -297,16 +304,17 @@ only-looking-up = looked-unique
 pub only-table : (d : DeviceRule) {not-empty : ℕ} {table table′ : List ℕ} → EqualsRule d not-empty table → EqualsRule d not-empty table′ → table ≡ table′
 only-table = table-unique
 
-pub only-printing : {book run text text′ : List ℕ} → Bytes (take 31111 book) → Prints book run text → Prints book run text′ → text ≡ text′
+pub only-printing : {book run text text′ : List ℕ} → Bytes (take 31179 book) → Prints book run text → Prints book run text′ → text ≡ text′
 only-printing = prints-unique
 
--- demand 3 alone, where no refusal before it is due and some history fits: which of 0 and 11, the numbers, and on 0 counts, plan and legs
+-- demand 3 alone, where no refusal before it is due and some history fits: which of 0 and 11, the numbers, and on 0 counts, sum, plan and
+-- legs
 pub only-demand : {E : Type 0} (form : LegForm E) {book run : List ℕ} {l : AllLent E} {b : Book} {u : Run} → Ready form book run l b u
     → {r q : Assembly} {l′ l″ : AllLent E} → Demand form book run l r l′ → Demand form book run l q l″
     → (r .code ≡ q .code) × (r .fewest ≡ q .fewest) × (r .code ≡ 0 → SamePlan form r q (l′ .room) (l″ .room))
 only-demand form ready x y = demand-unique form ready x y
 
-pub only-answer : (d : Device) (items : List Item) (r : Run) (a b : Answer) → Answers d items r a → Answers d items r b → a ≡ b
+pub only-answer : (d : Device) (ws : List ℕ) (items : List Item) (r : Run) (a b : Answer) → Answers d ws items r a → Answers d ws items r b → a ≡ b
 only-answer = answers-unique
 
 -- ---- worked cases, with literal numbers
@@ -315,14 +323,19 @@ only-answer = answers-unique
 pub cases : Twelve
 cases = twelve
 
--- Q and two runs as bytes
+-- two cases of our own on Q with weights: the chain with more commands is the cheaper; equal sums and different counts
+pub cases-weighted : Weighted
+cases-weighted = weighted
+
+-- Q, the two books with weights, and two runs as bytes
 pub case-books : book-example.Worked
 case-books = book-cases.worked
 
 pub case-runs : run-example.Worked
 case-runs = run-cases.worked
 
--- of bytes: Q read and checked, Q5 to Q12 assembled, their legs as bytes and as structs; with the items of Q2, Q3 and Q4 refused
+-- of bytes: Q read and checked, Q5 to Q12 and the two cases with weights assembled, their legs as bytes and as structs; with the items of Q2, Q3 and
+-- Q4 refused
 pub case-read : QRead
 case-read = q-read
 

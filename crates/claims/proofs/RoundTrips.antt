@@ -35,9 +35,11 @@ write-back {n} {m} {items} {l} {out} {r} {out′} h x book given reads room = go
     go (faulty _ f e k) = absurd (omega (arith, code-of e, refusal-codes book _ _ f))
     go (fine b f e) =
         let holds : Holds n m items l b
-        = subst (λ (y : Reading). Holds (y .n) (y .m) (y .items) l b) (sym e) (read-holds (f .read .table-read) (f .read .slots-read)) in
-        let long : LongEnough (buffers l out)
-        = (omega (arith, f .read .table-read .size, f .long .0), (omega (arith, f .read .slots-read .size, f .long .1 .0), (room, tt))) in
+        = subst (λ (y : Reading). Holds (y .n) (y .m) (y .items) l b) (sym e) (read-holds (f .read)) in
+        let long : LongEnough (buffers l out) = (
+          omega (arith, f .read .table-read .size, f .long .0),
+          (omega (arith, f .read .slots-read .size, f .long .1 .0), (omega (arith, f .read .weights-read .size, f .long .1 .1 .0), (room, tt))),
+        ) in
         subst (λ (y : List ℕ). BookWritten y out r out′) (f .bytes) (held-written h x long (f .allowed) holds)
 
 pub read-back : {book : List ℕ} {l : Lent} {r : Reading} {l′ : Lent} → Bytes book → Reads book l r l′ → ReadBack book l r l′
@@ -58,6 +60,9 @@ read-back {book} {l} {r} {l′} h reads n m items given out w out′ x z e long 
     size : length (slotsBytes (b .items)) ≡ 34 * items
     size = length-slots (deviceOf b) (b .items) (allowed .each-item) ∙ ap (λ (k : ℕ). 34 * k) (holds .count)
 
+    weighed : length (b .weights) ≡ m
+    weighed = allowed .weighed .count ∙ holds .commands
+
     back : r ≡ done b → Filled book l b l′ → GivenBack n m items given r l′
     back q f =
         record {
@@ -72,6 +77,9 @@ read-back {book} {l} {r} {l′} h reads n m items given out w out′ x z e long 
           slots-same =
               ap (λ (k : ℕ). take k (l′ .slots)) (sym size)
               ∙ (f .read .slots-read .front ∙ (sym (holds .slots-are .front) ∙ ap (λ (k : ℕ). take k (given .slots)) size));
+          weights-same =
+              ap (λ (k : ℕ). take k (l′ .weights)) (sym weighed)
+              ∙ (f .read .weights-read .front ∙ (sym (holds .weights-are .front) ∙ ap (λ (k : ℕ). take k (given .weights)) weighed));
         }
 
     go : Reads book l r l′ → GivenBack n m items given r l′

@@ -50,36 +50,37 @@ abbrev pub Read : Type 1
 Read = List ℕ → Lent → Reading → Lent → Type 0
 
 abbrev pub onRead : Read → After read.ended
-onRead P κs (book, (table, (slots, _))) r (_, (table′, (slots′, _))) =
-    P (now book) (lent (now table) (now slots)) r (lent (now table′) (now slots′))
+onRead P κs (book, (table, (slots, (weights, _)))) r (_, (table′, (slots′, (weights′, _)))) =
+    P (now book) (lent (now table) (now slots) (now weights)) r (lent (now table′) (now slots′) (now weights′))
 
 abbrev pub Write : Type 1
 Write = ℕ → ℕ → ℕ → Lent → List ℕ → Writing → List ℕ → Type 0
 
 abbrev pub onWrite : Write → After write.ended
-onWrite P κs (n, (m, (items, (table, (slots, (out, _)))))) r (_, (_, (_, (_, (_, (out′, _)))))) =
-    P n m items (lent (now table) (now slots)) (now out) r (now out′)
+onWrite P κs (n, (m, (items, (table, (slots, (weights, (out, _))))))) r (_, (_, (_, (_, (_, (_, (out′, _))))))) =
+    P n m items (lent (now table) (now slots) (now weights)) (now out) r (now out′)
 
 abbrev pub Assemble : Type 0 → Type 1
 Assemble E = List ℕ → List ℕ → AllLent E → Assembly → AllLent E → Type 0
 
 abbrev pub onAssemble : Assemble ℕ → After assemble.ended
-onAssemble P κs (book, (run, (table, (slots, (plan, (legs, _)))))) r (_, (_, (table′, (slots′, (plan′, (legs′, _)))))) =
-    P (now book) (now run) (allLent (lent (now table) (now slots)) (now plan) (now legs)) r
-    (allLent (lent (now table′) (now slots′)) (now plan′) (now legs′))
+onAssemble P κs (book, (run, (table, (slots, (weights, (plan, (legs, _))))))) r (_, (_, (table′, (slots′, (weights′, (plan′, (legs′, _))))))) =
+    P (now book) (now run) (allLent (lent (now table) (now slots) (now weights)) (now plan) (now legs)) r
+    (allLent (lent (now table′) (now slots′) (now weights′)) (now plan′) (now legs′))
 
 abbrev pub onLegs : Assemble Leg → After assemble-legs.ended
-onLegs P κs (book, (run, (table, (slots, (plan, (legs, _)))))) r (_, (_, (table′, (slots′, (plan′, (legs′, _)))))) =
-    P (now book) (now run) (allLent (lent (now table) (now slots)) (now plan) (now legs)) r
-    (allLent (lent (now table′) (now slots′)) (now plan′) (now legs′))
+onLegs P κs (book, (run, (table, (slots, (weights, (plan, (legs, _))))))) r (_, (_, (table′, (slots′, (weights′, (plan′, (legs′, _))))))) =
+    P (now book) (now run) (allLent (lent (now table) (now slots) (now weights)) (now plan) (now legs)) r
+    (allLent (lent (now table′) (now slots′) (now weights′)) (now plan′) (now legs′))
 
 abbrev pub LayOut : Type 1
 LayOut = List ℕ → List ℕ → AllLent ℕ → List ℕ → Paged → AllLent ℕ → List ℕ → Type 0
 
 abbrev pub onLayOut : LayOut → After lay-out.ended
-onLayOut P κs (book, (run, (table, (slots, (plan, (legs, (page, _))))))) r (_, (_, (table′, (slots′, (plan′, (legs′, (page′, _))))))) =
-    P (now book) (now run) (allLent (lent (now table) (now slots)) (now plan) (now legs)) (now page) r
-    (allLent (lent (now table′) (now slots′)) (now plan′) (now legs′)) (now page′)
+onLayOut P κs (book, (run, (table, (slots, (weights, (plan, (legs, (page, _)))))))) r
+    (_, (_, (table′, (slots′, (weights′, (plan′, (legs′, (page′, _)))))))) =
+    P (now book) (now run) (allLent (lent (now table) (now slots) (now weights)) (now plan) (now legs)) (now page) r
+    (allLent (lent (now table′) (now slots′) (now weights′)) (now plan′) (now legs′)) (now page′)
 
 -- the two devices' lookups take and give the same, and so do their rules' functions
 abbrev pub onLookup : (ℕ → ℕ → LookupResult → Type 0) → After lookup.ended
@@ -93,22 +94,24 @@ onReport P κs (book, (run, (out, _))) r (_, (_, (out′, _))) = P (now book) (n
 
 -- ---- the round trips: of one call, whatever the other was given
 
--- n, m, count, every entry below n × m, every slot below the count
+-- n, m, count, every entry below n × m, every slot below the count, every weight below m: 02: "Demand 2's round trips take the weights in"
 pub record GivenBack (n m items : ℕ) (l : Lent) (r : Reading) (l′ : Lent) : Type 0 where
   pub result : r ≡ record { code = 0; place = 0; n = n; m = m; items = items }
   pub entries : (i : ℕ) → i < n * m → getD (l′ .table) i 0 ≡ getD (l .table) i 0
   pub slots-same : take (34 * items) (l′ .slots) ≡ take (34 * items) (l .slots)
+  pub weights-same : take m (l′ .weights) ≡ take m (l .weights)
 
--- "writing allowed tables and items and reading them gives those back": the book is what some writing, with code 0, wrote
+-- "writing allowed tables and items and reading them gives those back", with 02 the weights too: the book is what some writing, with code 0, wrote
 abbrev pub ReadBack : Read
 ReadBack book l r l′ =
     (n m items : ℕ) (given : Lent) (out : List ℕ) (w : Writing) (out′ : List ℕ) → Writes n m items given out w out′ → w .code ≡ 0
     → book ≡ take (w .length) out′ → LongEnough (sizes l) → GivenBack n m items given r l′
 
--- "Reading a well-formed book and writing it gives the same bytes": the n, m, count, table and slots are those that some reading, with code 0, left
+-- "Reading a well-formed book and writing it gives the same bytes": the n, m, count, table, slots and weights are those that some reading, with
+-- code 0, left
 abbrev pub WriteBack : Write
 WriteBack n m items l out r out′ =
-    (book : List ℕ) (given : Lent) → Reads book given (record { code = 0; place = 0; n = n; m = m; items = items }) l → 31110 ≤ length out
+    (book : List ℕ) (given : Lent) → Reads book given (record { code = 0; place = 0; n = n; m = m; items = items }) l → 31178 ≤ length out
     → BookWritten book out r out′
 
 -- ---- the claims
@@ -118,7 +121,7 @@ abbrev pub ReadsZero : Read
 ReadsZero book l r l′ = (r .code ≡ 0) ↔ (LongEnough (sizes l) × WellFormed book)
 
 pub record ReadClaims (ρ : Routine) : Type 2 where
-  -- 01: "Reading fills a table .. and slots .."; its codes 1 to 7 in their order, and what each leaves behind
+  -- 01: "Reading fills a table .. and slots .."; 02: "Reading also gives 32 weights"; codes 1 to 7 and 13 in their order, and what each leaves behind
   pub says : Always read.ended ρ (onRead Reads)
   pub zero : Always read.ended ρ (onRead ReadsZero)
   pub given-back : Always read.ended ρ (onRead ReadBack)
@@ -140,13 +143,13 @@ pub record CheckClaims (ρ : Routine) : Type 2 where
   pub eight : Always check.ended ρ (onRead (ChecksWrong 8 NoReversePlan))
   pub twelve : Always check.ended ρ (onRead (ChecksWrong 12 NotEffective))
 
--- writing answers 0 exactly where the buffers are long enough and table and slots hold an allowed book
+-- writing answers 0 exactly where the buffers are long enough and table, slots and weights hold an allowed book
 abbrev pub WritesZero : Write
 WritesZero n m items l out r out′ = (r .code ≡ 0) ↔ (LongEnough (buffers l out) × ((b : Book) × AllowedBook b × Holds n m items l b))
 
 -- what it writes is well-formed, and no longer than any well-formed book
 abbrev pub WellWritten : Write
-WellWritten n m items l out r out′ = r .code ≡ 0 → WellFormed (take (r .length) out′) × (r .length ≤ 31110)
+WellWritten n m items l out r out′ = r .code ≡ 0 → WellFormed (take (r .length) out′) × (r .length ≤ 31178)
 
 pub record WriteClaims (ρ : Routine) : Type 2 where
   -- 01: "Writing takes n, m, an item count .."; its refusals in their order, and what the output holds then
@@ -156,7 +159,7 @@ pub record WriteClaims (ρ : Routine) : Type 2 where
   pub same-bytes : Always write.ended ρ (onWrite WriteBack)
 
 pub record AssembleClaims (ρ : Routine) : Type 2 where
-  -- every code of 01's table, and 02's 12, in their order, with every buffer as stated for it
+  -- every code of 01's table, and 02's 12 and 13, in their order, with every buffer as stated for it
   pub says : Always assemble.ended ρ (onAssemble (Assembles inBytes))
   -- demand 3, whole
   pub demand-three : Always assemble.ended ρ (onAssemble (Demand inBytes))
@@ -207,5 +210,5 @@ PortableTable ρ = Always portable-table.ended ρ (λ κs a r e. ConstantTable p
 
 -- the program's text
 pub record ReportClaims (ρ : Routine) : Type 2 where
-  -- 01: "The program `rollback` judges at most the first 31,111 bytes of book.bin and 302 of run.bin"; its two lines, in the lent row
+  -- 01: "The program `rollback` judges at most the first 31,111 bytes of book.bin and 302 of run.bin", with 02 31,179; its two lines, in the lent row
   pub says : Always report.ended ρ (onReport Reports)

@@ -24,9 +24,9 @@ use Rattle.claims.specs.Claims.{Read, LayOut}
 abbrev pub ChecksWorked : Read
 ChecksWorked book l r l′ = (answer : Reading) → Judges book answer → LongEnough (sizes l) → r ≡ answer
 
--- the runs of the joint table, and the books that are refused
+-- the runs of the joint table, those with weights, and the books that are refused
 pub record AssemblesWorked {E : Type 0} (form : LegForm E) (book run : List ℕ) (l : AllLent E) (r : Assembly) (l′ : AllLent E) : Type 0 where
-  pub run-of : (u : Run) (a : Answer) → BytesGive form u a → book ≡ bytesQ → run ≡ runBytes u → LongEnough (allSizes form l)
+  pub run-of : (u : Run) (a : Answer) → BytesGive form book u a → run ≡ runBytes u → LongEnough (allSizes form l)
       → Left form a (l .room) r (l′ .room)
   pub refused : (code place : ℕ) → BookRefused form book code place → LongEnough (allSizes form l)
       → (r ≡ refusal code place) × (l′ .room ≡ l .room)

@@ -12,7 +12,7 @@ use Rattle.octets.specs.Le.{bytesLe}
 use Rattle.octets.specs.Parts.{le, leAt}
 use Rattle.book.specs.Book.{Move, Book, AllowedBook, Rec, frame, framed, moveRec, itemRec, bytesOf}
 use Rattle.book.proofs.Scanning.{length-frame}
-use Rattle.items.specs.Items.{Begins, ItemStands}
+use Rattle.items.specs.Items.{MovesBegin, Begins, ItemStands}
 
 -- ---- the kind of a record
 module _ (s : List ℕ) (at : ℕ) where
@@ -20,7 +20,7 @@ module _ (s : List ℕ) (at : ℕ) where
   unfolding frame bytesLe
   kind-at r t e = rw (← drop-drop 2 at s, e)
 
-  no-kind : drop at s ≡ [] → leAt 2 s (at + 2) ≡ 0
+  pub no-kind : drop at s ≡ [] → leAt 2 s (at + 2) ≡ 0
   no-kind e = rw (← drop-drop 2 at s, e)
 
   pub past-move : (x : Move) (t : List ℕ) → drop at s ≡ frame (moveRec x) ++ t → drop (at + 14) s ≡ t
@@ -48,9 +48,8 @@ pub record Before (s : List ℕ) (b : Book) (at : ℕ) : Type 0 where
   pub left : List Move
   pub rest : drop at s ≡ framed (map moveRec left ++ map itemRec (b .items))
 
-pub at-moves : (s : List ℕ) (b : Book) → bytesOf b ≡ s → Before s b 6
-unfolding frame bytesLe
-at-moves s b e = record { left = b .moves; rest = rw (← e) }
+pub at-moves : {s : List ℕ} {b : Book} {at : ℕ} → MovesBegin s b at → Before s b at
+at-moves {b = b} e = record { left = b .moves; rest = e }
 
 module _ {s : List ℕ} {b : Book} {at : ℕ} (g : Before s b at) where
   pub next-move : leAt 2 s (at + 2) ≡ 2 → Before s b (at + 14)

@@ -1,15 +1,27 @@
--- The items in a book's bytes, for every allowed book whose bytes these are. Assumes nothing: these are definitions.
+-- The weights, moves and items in a book's bytes, for every allowed book whose bytes these are. Assumes nothing: these are definitions.
 use mathlib.Core.Path.{_≡_}
 use mathlib.Core.List.{List, _++_, map}
 use Prim.Native.Nat.{ℕ, _+_, _≤_, _<_}
-use lib.ListN.{length, take, drop}
+use lib.ListN.{length, getD, take, drop}
 use Rattle.reversal.specs.Reversal.{Item}
 use Rattle.reversal.specs.Chains.{item}
 use Rattle.octets.specs.Le.{bytesLe}
-use Rattle.book.specs.Book.{Book, AllowedBook, bytesOf, framed, itemRec}
+use Rattle.book.specs.Book.{Book, AllowedBook, bytesOf, framed, moveRec, itemRec}
 use Rattle.octets.specs.Parts.{piece}
 use Rattle.items.specs.declared.Place.{Place}
 use Rattle.items.specs.declared.Parts.{Parts}
+
+-- the contract of `weight_at`
+pub record WeightAt (s : List ℕ) (command r : ℕ) : Type 0 where
+  pub weight : (b : Book) → AllowedBook b → bytesOf b ≡ s → command < b .m → r ≡ getD (b .weights) command 0
+
+-- the records of b's moves and items are what stands in s from `at` on
+abbrev pub MovesBegin : List ℕ → Book → ℕ → Type 0
+MovesBegin s b at = drop at s ≡ framed (map moveRec (b .moves) ++ map itemRec (b .items))
+
+-- the contract of `first_move`
+pub record FirstMove (s : List ℕ) (r : ℕ) : Type 0 where
+  pub begins : (b : Book) → AllowedBook b → bytesOf b ≡ s → MovesBegin s b r
 
 -- the records of b's items from item i on are what stands in s from `at` on
 abbrev pub Begins : List ℕ → Book → ℕ → ℕ → Type 0

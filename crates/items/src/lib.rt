@@ -1,6 +1,8 @@
-// The items of a book, read from its bytes: where each one's record begins, and what it holds. This is the one module that knows the layout
-// of an item's record for reading it. Every call takes any bytes; its promise speaks of every allowed book whose bytes these are.
-ghost use Rattle.items.specs.Items.{ItemAt, PartsAt, FirstItem};
+// The weights and items of a book, read from its bytes: where the moves and each item's record begin, and what the records of weights and items
+// hold. This is the one module that knows the layout of these records for reading them. Every call takes any bytes; its promise speaks of every
+// allowed book whose bytes these are.
+ghost use Prim.Native.Nat.{_<_, _≤_};
+ghost use Rattle.items.specs.Items.{WeightAt, FirstMove, ItemAt, PartsAt, FirstItem};
 
 // The item whose record begins at a place: its counts and masks, where its commands stand each way, and the place past it.
 pub struct Place {
@@ -84,11 +86,33 @@ pub fn parts_at(book: &[u8], at: usize) -> Parts
     }
 }
 
-// Where the first item's record begins, or the end where there is no item: past the device and the moves.
+// The weight of a command: its two bytes in the record after the device, 1 where no record of weights stands there.
+pub fn weight_at(book: &[u8], command: u8) -> u64
+    ensures { λ r. ⌜ WeightAt (now (book .entry)) command r ⌝ }
+    ensures { λ r. ⌜ r < 65536 ⌝ }
+{
+    if octets::u16_at(book, 8) != 5 {
+        return 1;
+    }
+    octets::u16_at(book, 10 + 2 * command as usize)
+}
+
+// Where the first move's record begins, or the first item's where there is no move: past the device and the weights.
+pub fn first_move(book: &[u8]) -> usize
+    ensures { λ r. ⌜ FirstMove (now (book .entry)) r ⌝ }
+    ensures { λ r. ⌜ r ≤ 65545 ⌝ }
+{
+    if octets::u16_at(book, 8) != 5 {
+        return 6;
+    }
+    10 + octets::u16_at(book, 6) as usize
+}
+
+// Where the first item's record begins, or the end where there is no item: past the moves.
 pub fn first_item(book: &[u8]) -> usize
     ensures { λ r. ⌜ FirstItem (now (book .entry)) r ⌝ }
 {
-    let mut at: usize = 6;
+    let mut at = first_move(book);
     while octets::u16_at(book, at + 2) == 2 {
         at = at + 14;
     }

@@ -16,6 +16,7 @@ fn lend(
     run: &[u8],
     table: &mut [u64],
     slots: &mut [u8],
+    weights: &mut [u16],
     plan: &mut [u8],
     old: [Leg; 32],
     room: usize,
@@ -23,7 +24,15 @@ fn lend(
     requires { ⌜ room ≤ 32 ⌝ }
 {
     let mut legs = old;
-    let result = planner::rollback_assemble_legs(book, run, table, slots, plan, &mut legs[..room]);
+    let result = planner::rollback_assemble_legs(
+        book,
+        run,
+        table,
+        slots,
+        weights,
+        plan,
+        &mut legs[..room],
+    );
     After {
         result: result,
         legs: legs,
@@ -36,8 +45,8 @@ fn print_leg(leg: Leg) {
 }
 
 fn print_answer(r: Assembly) {
-    let row = [r.code, r.place, r.commands, r.legs];
-    vectors::print_numbers(&row, 4);
+    let row = [r.code, r.place, r.commands, r.legs, r.sum];
+    vectors::print_numbers(&row, 5);
 }
 
 // The legs counted, and the first one past them.
@@ -82,14 +91,33 @@ fn print_after(a: After) {
 fn run_case(book: &[u8], run: &[u8]) {
     let mut table = [0u64; 2048];
     let mut slots = [0u8; 2176];
+    let mut weights = [0u16; 32];
     let mut plan = [0u8; 256];
     let old = [Leg {
         item: 9,
         upper: 8,
         lower: 7,
     }; 32];
-    print_after(lend(book, run, &mut table, &mut slots, &mut plan, old, 32));
-    print_after(lend(book, run, &mut table, &mut slots, &mut plan, old, 31));
+    print_after(lend(
+        book,
+        run,
+        &mut table,
+        &mut slots,
+        &mut weights,
+        &mut plan,
+        old,
+        32,
+    ));
+    print_after(lend(
+        book,
+        run,
+        &mut table,
+        &mut slots,
+        &mut weights,
+        &mut plan,
+        old,
+        31,
+    ));
 }
 
 // The run in the file of that name.
@@ -100,7 +128,7 @@ fn run_file(book: &[u8], name: &[u8]) {
 }
 
 fn main() {
-    let mut book = [0u8; 31111];
+    let mut book = [0u8; 31179];
     let size = files::read_file(b"book.bin", &mut book);
     run_file(&book[..size], b"q5.bin");
     run_file(&book[..size], b"q6.bin");

@@ -1,8 +1,8 @@
-// 01's limits of a device, a move and an item, each judged by one function for reading, writing and every other call.
+// 01's and 02's limits of a device, a weight, a move and an item, each judged by one function for reading, writing and every other call.
 use states::StateSet;
 ghost use mathlib.Core.Path.{_≡_};
 ghost use Rattle.base.specs.Masks.{clearFrom};
-ghost use Rattle.book.specs.Limits.{deviceFine, moveFine, moveWith, countsFine, allBelow, fieldsFine, itemWith};
+ghost use Rattle.book.specs.Limits.{deviceFine, weightFine, moveFine, moveWith, countsFine, allBelow, fieldsFine, itemWith};
 
 // Whether there are such devices: n from 1 to 64, m from 1 to 32.
 pub fn device_fine(n: u64, m: u64) -> bool
@@ -18,6 +18,19 @@ pub fn device_fine(n: u64, m: u64) -> bool
         return false;
     }
     if 32 < m {
+        return false;
+    }
+    true
+}
+
+// Whether a command may have this weight: 1 to 1,000.
+pub fn weight_fine(w: u64) -> bool
+    ensures { λ r. ⌜ r ≡ weightFine w ⌝ }
+{
+    if w < 1 {
+        return false;
+    }
+    if 1000 < w {
         return false;
     }
     true

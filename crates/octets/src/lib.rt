@@ -1,5 +1,5 @@
-// Numbers as bytes: read from a lent row, and written into one. Every function takes any numbers: past a row's end there are zeros, and nothing
-// is stored.
+// Numbers as bytes: read from a lent row, and written into one; 16-bit numbers, read from one. Every function takes any numbers: past a row's end
+// there are zeros, and nothing is stored.
 ghost use mathlib.Core.Path.{_≡_};
 ghost use Prim.Native.Nat.{_+_, _<_, _≤_};
 ghost use lib.Dec.{leb};
@@ -12,6 +12,14 @@ ghost use Rattle.octets.specs.Parts.{leAt, piece};
 pub fn byte_at(s: &[u8], i: usize) -> u64
     ensures { λ r. ⌜ r ≡ getD (now (s .entry)) i 0 ⌝ }
     ensures { λ r. ⌜ r < 256 ⌝ }
+{
+    if i < s.len() { s[i] as u64 } else { 0 }
+}
+
+// The 16-bit number at i, or 0 past the end.
+pub fn word_at(s: &[u16], i: usize) -> u64
+    ensures { λ r. ⌜ r ≡ getD (now (s .entry)) i 0 ⌝ }
+    ensures { λ r. ⌜ r < 65536 ⌝ }
 {
     if i < s.len() { s[i] as u64 } else { 0 }
 }

@@ -20,9 +20,9 @@ fn size(whole: usize, kind: u64, short: u64) -> usize
 
 fn print_answer(r: Paged, page: &[u8]) {
     let a = r.assembly;
-    let row = [a.code, a.place, a.commands, a.legs, r.length];
-    vectors::print_numbers(&row, 5);
-    vectors::print_words(&a.fewest, 33);
+    let row = [a.code, a.place, a.commands, a.legs, a.sum, r.length];
+    vectors::print_numbers(&row, 6);
+    vectors::print_longs(&a.fewest, 33);
     let length = r.length as usize;
     io::write_all(STDOUT_FILENO, vectors::part(page, 0, length));
     vectors::print_bytes(vectors::part(page, length, 4), 4);
@@ -35,6 +35,7 @@ fn lend(
     run: &[u8],
     table: &mut [u64],
     slots: &mut [u8],
+    weights: &mut [u16],
     plan: &mut [u8],
     legs: &mut [u8],
     page: &mut [u8],
@@ -44,11 +45,13 @@ fn lend(
     let legs_size = size(legs.len(), kind, 3);
     let table_size = size(table.len(), kind, 4);
     let slots_size = size(slots.len(), kind, 5);
+    let weights_size = size(weights.len(), kind, 7);
     let r = paper::lay_out(
         book,
         run,
         &mut table[..table_size],
         &mut slots[..slots_size],
+        &mut weights[..weights_size],
         &mut plan[..plan_size],
         &mut legs[..legs_size],
         &mut page[..page_size],
@@ -60,6 +63,7 @@ fn lend(
 fn run_case(kind: u64, book: &[u8], run: &[u8]) {
     let mut table = [0u64; 2053];
     let mut slots = [0u8; 2181];
+    let mut weights = [0u16; 37];
     let mut plan = [0u8; 261];
     let mut legs = [0u8; 101];
     let mut page = [90u8; 1317];
@@ -69,6 +73,7 @@ fn run_case(kind: u64, book: &[u8], run: &[u8]) {
         run,
         &mut table,
         &mut slots,
+        &mut weights,
         &mut plan,
         &mut legs,
         &mut page,
@@ -78,7 +83,7 @@ fn run_case(kind: u64, book: &[u8], run: &[u8]) {
 // The file's next case.
 fn next_case(file: i32) {
     let mut head = [0u8; 5];
-    let mut book = [0u8; 31111];
+    let mut book = [0u8; 31179];
     let mut run = [0u8; 302];
     io::read_full(file, &mut head);
     let book_size = vectors::read_part(file, octets::u16_at(&head, 1) as u16, &mut book);

@@ -47,7 +47,7 @@ laid-text {a} {room} {r} {room′} {page} {page′} w counted d =
     let t = one-text d accepted-Q (a .plan-legs) (ap (λ (k : ℕ). take k (room′ .legs)) n ∙ w .legs-written .front) in
     (subst (λ (x : List ℕ). Written x page page′) t (d .written), d .length-is ∙ ap length t)
 
-module _ (u : Run) (a : Answer) (gives : BytesGive inBytes u a) where
+module _ (u : Run) (a : Answer) (gives : BytesGive inBytes bytesQ u a) where
   given : a .code ≡ 0 → length (a .plan-legs) ≡ a .leg-count → PageGiven u (pageOf itemsQ (a .plan-legs))
   given z counted = record { written = go }
     where
@@ -69,7 +69,8 @@ module _ (u : Run) (a : Answer) (gives : BytesGive inBytes u a) where
 
 short-page : {book run : List ℕ} {l : AllLent ℕ} {page : List ℕ} {r : Paged} {l′ : AllLent ℕ} {page′ : List ℕ} → Pages book run l page r l′ page′
     → length page ≡ 1311
-    → (r ≡ record { assembly = record { code = 1; place = 0; commands = 0; legs = 0; fewest = replicate 33 65535 }; length = 0 }) × (l′ ≡ l) × (page′ ≡ page)
+    → (r ≡ record { assembly = record { code = 1; place = 0; commands = 0; legs = 0; sum = 0; fewest = replicate 33 4294967295 }; length = 0 })
+    × (l′ ≡ l) × (page′ ≡ page)
 short-page (short k e i j) n = (e, i, j)
 short-page (refused k x m e j) n = absurd (omega (arith, k .0))
 short-page (laid k x z d) n = absurd (omega (arith, k .0))

@@ -62,9 +62,9 @@ module _ (b : Book) (ok : AllowedBook b) (u : Run) (fine : AllowedRun (deviceOf 
   pub chain-back : (xs : List ℕ) → Chain (deviceOf b) u items (last u) xs → PageBack (reverseOf items) 1 (legsOf items (last u) xs)
   chain-back xs c =
       page-back (reverseOf items) (legsOf items (last u) xs) 1
-      (omega (arith, length-legs items xs (last u), chain-most (deviceOf b) u items (ok .each-item) xs (last u) c .1, fine .short))
+      (omega (arith, length-legs items xs (last u), chain-most (deviceOf b) u items (ok .each-item) xs (last u) c, fine .short))
       (legs-fit xs (last u) (fine .short) c)
 
   pub chain-short : (xs : List ℕ) → Chain (deviceOf b) u items (last u) xs → length (pageOf items (legsOf items (last u) xs)) ≤ 1312
   chain-short xs c =
-      omega (arith, chain-back xs c .long, length-legs items xs (last u), chain-most (deviceOf b) u items (ok .each-item) xs (last u) c .1, fine .short)
+      omega (arith, chain-back xs c .long, length-legs items xs (last u), chain-most (deviceOf b) u items (ok .each-item) xs (last u) c, fine .short)

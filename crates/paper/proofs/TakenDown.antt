@@ -71,7 +71,7 @@ module _ {book run : List ℕ} {l : AllLent ℕ} {page : List ℕ} {r : Paged} {
   pub taken-down : Pages book run l page r l′ page′ → TakenDown r l′ page′
   taken-down (short k e i j) =
       nothing r l′ page′ (ap (λ (x : Paged). x .length) e) (ap (λ (x : Paged). x .assembly .commands) e) (ap (λ (x : Paged). x .assembly .legs) e)
-  taken-down (refused long a n e k) = let (c, g) = none-counted a n in nothing r l′ page′ e c g
+  taken-down (refused long a n e k) = let (c, g, s) = none-counted a n in nothing r l′ page′ e c g
   taken-down (laid long a z d) = let (b, (u, g, p)) = demand even-bytes h a .plan-given z in all-taken book run page r l′ page′ b u g p d
 
   pub page-demand : Pages book run l page r l′ page′ → PageDemand book run l page r l′ page′

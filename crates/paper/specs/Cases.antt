@@ -54,5 +54,5 @@ pub record PageRuns : Type 0 where
   -- a page of 1,311 bytes, whatever book, run and other buffers are
   pub short : {book run : List ℕ} {l : AllLent ℕ} {page : List ℕ} {r : Paged} {l′ : AllLent ℕ} {page′ : List ℕ} → Pages book run l page r l′ page′
       → length page ≡ 1311
-      → (r ≡ record { assembly = record { code = 1; place = 0; commands = 0; legs = 0; fewest = replicate 33 65535 }; length = 0 })
+      → (r ≡ record { assembly = record { code = 1; place = 0; commands = 0; legs = 0; sum = 0; fewest = replicate 33 4294967295 }; length = 0 })
       × (l′ ≡ l) × (page′ ≡ page)

@@ -123,13 +123,14 @@ pub fn lay_out(
     run: &[u8],
     table: &mut [u64],
     slots: &mut [u8],
+    weights: &mut [u16],
     plan: &mut [u8],
     legs: &mut [u8],
     page: &mut [u8],
 ) -> Paged
     ensures { λ r. ⌜ PageAs (now (book .entry)) (now (run .entry))
-        (allLent (lent (now (table .entry)) (now (slots .entry))) (now (plan .entry)) (now (legs .entry))) (now (page .entry)) r
-        (allLent (lent (now (table .exit)) (now (slots .exit))) (now (plan .exit)) (now (legs .exit))) (now (page .exit)) ⌝ }
+        (allLent (lent (now (table .entry)) (now (slots .entry)) (now (weights .entry))) (now (plan .entry)) (now (legs .entry))) (now (page .entry)) r
+        (allLent (lent (now (table .exit)) (now (slots .exit)) (now (weights .exit))) (now (plan .exit)) (now (legs .exit))) (now (page .exit)) ⌝ }
 {
     if page.len() < PAGE_LEN {
         return Paged {
@@ -137,7 +138,7 @@ pub fn lay_out(
             length: 0,
         };
     }
-    let result = assembly::assemble(book, run, table, slots, plan, legs);
+    let result = assembly::assemble(book, run, table, slots, weights, plan, legs);
     let length = put_lines(slots, legs, result.legs as usize, page);
     Paged {
         assembly: result,

@@ -22,19 +22,29 @@ ghost use Rattle.ridge.specs.Computed.{ridgeLookup};
 ghost use Rattle.portable.specs.Computed.{portableLookup};
 
 #[no_mangle]
-pub extern "C" fn rollback_read(book: &[u8], table: &mut [u64], slots: &mut [u8]) -> Reading
-    ensures { λ r. ⌜ ReadAs (now (book .entry)) (lent (now (table .entry)) (now (slots .entry))) r
-        (lent (now (table .exit)) (now (slots .exit))) ⌝ }
+pub extern "C" fn rollback_read(
+    book: &[u8],
+    table: &mut [u64],
+    slots: &mut [u8],
+    weights: &mut [u16],
+) -> Reading
+    ensures { λ r. ⌜ ReadAs (now (book .entry)) (lent (now (table .entry)) (now (slots .entry)) (now (weights .entry))) r
+        (lent (now (table .exit)) (now (slots .exit)) (now (weights .exit))) ⌝ }
 {
-    reader::read(book, table, slots)
+    reader::read(book, table, slots, weights)
 }
 
 #[no_mangle]
-pub extern "C" fn rollback_check(book: &[u8], table: &mut [u64], slots: &mut [u8]) -> Reading
-    ensures { λ r. ⌜ CheckAs (now (book .entry)) (lent (now (table .entry)) (now (slots .entry))) r
-        (lent (now (table .exit)) (now (slots .exit))) ⌝ }
+pub extern "C" fn rollback_check(
+    book: &[u8],
+    table: &mut [u64],
+    slots: &mut [u8],
+    weights: &mut [u16],
+) -> Reading
+    ensures { λ r. ⌜ CheckAs (now (book .entry)) (lent (now (table .entry)) (now (slots .entry)) (now (weights .entry))) r
+        (lent (now (table .exit)) (now (slots .exit)) (now (weights .exit))) ⌝ }
 {
-    checker::check(book, table, slots)
+    checker::check(book, table, slots, weights)
 }
 
 #[no_mangle]
@@ -43,14 +53,15 @@ pub extern "C" fn rollback_assemble(
     run: &[u8],
     table: &mut [u64],
     slots: &mut [u8],
+    weights: &mut [u16],
     plan: &mut [u8],
     legs: &mut [u8],
 ) -> Assembly
     ensures { λ r. ⌜ AssembleAs inBytes (now (book .entry)) (now (run .entry))
-        (allLent (lent (now (table .entry)) (now (slots .entry))) (now (plan .entry)) (now (legs .entry))) r
-        (allLent (lent (now (table .exit)) (now (slots .exit))) (now (plan .exit)) (now (legs .exit))) ⌝ }
+        (allLent (lent (now (table .entry)) (now (slots .entry)) (now (weights .entry))) (now (plan .entry)) (now (legs .entry))) r
+        (allLent (lent (now (table .exit)) (now (slots .exit)) (now (weights .exit))) (now (plan .exit)) (now (legs .exit))) ⌝ }
 {
-    assembly::assemble(book, run, table, slots, plan, legs)
+    assembly::assemble(book, run, table, slots, weights, plan, legs)
 }
 
 #[no_mangle]
@@ -59,15 +70,16 @@ pub extern "C" fn rollback_page(
     run: &[u8],
     table: &mut [u64],
     slots: &mut [u8],
+    weights: &mut [u16],
     plan: &mut [u8],
     legs: &mut [u8],
     page: &mut [u8],
 ) -> Paged
     ensures { λ r. ⌜ PageAs (now (book .entry)) (now (run .entry))
-        (allLent (lent (now (table .entry)) (now (slots .entry))) (now (plan .entry)) (now (legs .entry))) (now (page .entry)) r
-        (allLent (lent (now (table .exit)) (now (slots .exit))) (now (plan .exit)) (now (legs .exit))) (now (page .exit)) ⌝ }
+        (allLent (lent (now (table .entry)) (now (slots .entry)) (now (weights .entry))) (now (plan .entry)) (now (legs .entry))) (now (page .entry)) r
+        (allLent (lent (now (table .exit)) (now (slots .exit)) (now (weights .exit))) (now (plan .exit)) (now (legs .exit))) (now (page .exit)) ⌝ }
 {
-    paper::lay_out(book, run, table, slots, plan, legs, page)
+    paper::lay_out(book, run, table, slots, weights, plan, legs, page)
 }
 
 #[no_mangle]
@@ -77,11 +89,12 @@ pub extern "C" fn rollback_write(
     items: u64,
     table: &[u64],
     slots: &[u8],
+    weights: &[u16],
     out: &mut [u8],
 ) -> Writing
-    ensures { λ r. ⌜ WriteAs n m items (lent (now (table .entry)) (now (slots .entry))) (now (out .entry)) r (now (out .exit)) ⌝ }
+    ensures { λ r. ⌜ WriteAs n m items (lent (now (table .entry)) (now (slots .entry)) (now (weights .entry))) (now (out .entry)) r (now (out .exit)) ⌝ }
 {
-    writer::write(n, m, items, table, slots, out)
+    writer::write(n, m, items, table, slots, weights, out)
 }
 
 #[no_mangle]
@@ -119,12 +132,13 @@ fn assemble_whole(
     run: &[u8],
     table: &mut [u64],
     slots: &mut [u8],
+    weights: &mut [u16],
     plan: &mut [u8],
     room: usize,
 ) -> Whole
     ensures { λ r. ⌜ WholeAs (now (book .entry)) (now (run .entry))
-        (lent (now (table .entry)) (now (slots .entry))) (now (plan .entry)) room r
-        (lent (now (table .exit)) (now (slots .exit))) (now (plan .exit)) ⌝ }
+        (lent (now (table .entry)) (now (slots .entry)) (now (weights .entry))) (now (plan .entry)) room r
+        (lent (now (table .exit)) (now (slots .exit)) (now (weights .exit))) (now (plan .exit)) ⌝ }
 {
     let mut bytes = [0u8; assembly::LEGS_LEN];
     if room < 32 {
@@ -134,7 +148,7 @@ fn assemble_whole(
             count: 0,
         };
     }
-    let result = assembly::assemble(book, run, table, slots, plan, &mut bytes);
+    let result = assembly::assemble(book, run, table, slots, weights, plan, &mut bytes);
     Whole {
         result: result,
         bytes: bytes,
@@ -180,14 +194,15 @@ pub extern "C" fn rollback_assemble_legs(
     run: &[u8],
     table: &mut [u64],
     slots: &mut [u8],
+    weights: &mut [u16],
     plan: &mut [u8],
     legs: &mut [Leg],
 ) -> Assembly
     ensures { λ r. ⌜ AssembleAs inStructs (now (book .entry)) (now (run .entry))
-        (allLent (lent (now (table .entry)) (now (slots .entry))) (now (plan .entry)) (now (legs .entry))) r
-        (allLent (lent (now (table .exit)) (now (slots .exit))) (now (plan .exit)) (now (legs .exit))) ⌝ }
+        (allLent (lent (now (table .entry)) (now (slots .entry)) (now (weights .entry))) (now (plan .entry)) (now (legs .entry))) r
+        (allLent (lent (now (table .exit)) (now (slots .exit)) (now (weights .exit))) (now (plan .exit)) (now (legs .exit))) ⌝ }
 {
-    let w = assemble_whole(book, run, table, slots, plan, legs.len());
+    let w = assemble_whole(book, run, table, slots, weights, plan, legs.len());
     fill_legs(legs, w);
     result_of(w)
 }

@@ -1,5 +1,7 @@
--- Q's 225 bytes read, by the book that stands in them. Assumes nothing.
+-- Q's 225 bytes read, and its device with weights, by the books that stand in them. Assumes nothing.
 use mathlib.Core.Path.{_≡_, refl, sym, ap, _∙_, subst}
+use mathlib.Core.List.{List}
+use Prim.Native.Nat.{ℕ}
 use lib.Dec.{lit<, lit≤}
 use lib.ListN.{take}
 use lib.Seq.{take-take}
@@ -8,12 +10,12 @@ use Rattle.base.specs.Sizes.{LongEnough}
 use Rattle.base.specs.Tests.{pick, both}
 use Rattle.base.specs.Compare.{less, same}
 use Rattle.octets.specs.Le.{bytesLe}
-use Rattle.book.specs.Book.{Book, outcomeOf}
+use Rattle.book.specs.Book.{Book, AllowedBook, bytesOf, outcomeOf}
 use Rattle.book.specs.Lent.{Lent, sizes, slotsBytes}
 use Rattle.book.specs.Limits.{allBelow}
-use Rattle.book.specs.Example.{bookQ, bytesQ, firstSlots}
+use Rattle.book.specs.Example.{bookQ, bytesQ, bookDear, bytesDear, firstSlots}
 use Rattle.book.proofs.Fields.{all-on}
-use Rattle.book.proofs.Example.{bytes-bookQ, allowed-bookQ}
+use Rattle.book.proofs.Example.{bytes-bookQ, allowed-bookQ, bytes-bookDear, allowed-bookDear}
 use Rattle.book.proofs.Unique.{one-book, not-refused}
 use Rattle.reader.specs.declared.Reading.{Reading}
 use Rattle.reader.specs.Reads.{done, Filled, Reads, short, faulty, fine}
@@ -23,14 +25,24 @@ pub bytes-Q : Bytes bytesQ
 unfolding allBelow pick less
 bytes-Q = all-on 256 bytesQ refl
 
-module _ {l : Lent} {r : Reading} {l′ : Lent} where
-  -- what is read is Q's book
-  read-Q : Reads bytesQ l r l′ → LongEnough (sizes l) → (r ≡ done bookQ) × Filled bytesQ l bookQ l′
-  read-Q (short a e k) h = absurd (a h)
-  read-Q (faulty h f e k) _ = absurd (not-refused bytesQ bytes-Q f bookQ allowed-bookQ bytes-bookQ)
-  read-Q (fine b f e) h =
-      let x : b ≡ bookQ = one-book b bookQ (f .allowed) allowed-bookQ (f .bytes ∙ sym bytes-bookQ) in
-      (e ∙ ap done x, subst (λ (y : Book). Filled bytesQ l y l′) x f)
+pub bytes-Dear : Bytes bytesDear
+unfolding allBelow pick less
+bytes-Dear = all-on 256 bytesDear refl
+
+module _ {s : List ℕ} (bytes : Bytes s) {b : Book} (a : AllowedBook b) (same : bytesOf b ≡ s) {l : Lent} {r : Reading} {l′ : Lent} where
+  -- what is read is the book of these bytes
+  read-as : Reads s l r l′ → LongEnough (sizes l) → (r ≡ done b) × Filled s l b l′
+  read-as (short n e k) h = absurd (n h)
+  read-as (faulty h f e k) _ = absurd (not-refused s bytes f b a same)
+  read-as (fine b′ f e) h =
+      let x : b′ ≡ b = one-book b′ b (f .allowed) a (f .bytes ∙ sym same) in
+      (e ∙ ap done x, subst (λ (y : Book). Filled s l y l′) x f)
+
+read-Q : {l : Lent} {r : Reading} {l′ : Lent} → Reads bytesQ l r l′ → LongEnough (sizes l) → (r ≡ done bookQ) × Filled bytesQ l bookQ l′
+read-Q = read-as bytes-Q allowed-bookQ bytes-bookQ
+
+read-Dear : {l : Lent} {r : Reading} {l′ : Lent} → Reads bytesDear l r l′ → LongEnough (sizes l) → (r ≡ done bookDear) × Filled bytesDear l bookDear l′
+read-Dear = read-as bytes-Dear allowed-bookDear bytes-bookDear
 
 slots-Q : take 68 (slotsBytes (bookQ .items)) ≡ firstSlots
 unfolding slotsBytes bytesLe
@@ -48,4 +60,8 @@ q-read =
       first-slots =
           λ {l} {r} {l′} x h.
           sym (take-take 68 170 (l′ .slots) (lit≤ tt)) ∙ (ap (take 68) (read-Q x h .1 .read .slots-read .front) ∙ slots-Q);
+      plain-weights = λ x h. read-Q x h .1 .read .weights-read .front;
+      dear-weights = λ x h. read-Dear x h .1 .read .weights-read .front;
+      plain-past-m = λ x h i l. read-Q x h .1 .read .weights-read .kept i 0 l;
+      dear-past-m = λ x h i l. read-Dear x h .1 .read .weights-read .kept i 0 l;
     }

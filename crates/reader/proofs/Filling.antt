@@ -1,10 +1,10 @@
--- What is stored is the book's table and slots: what is left of its moves and items gives the whole. Assumes nothing.
+-- What is stored is the book's table, slots and weights: what is left of its moves, items and weights gives the whole. Assumes nothing.
 use mathlib.Core.Path.{_≡_, refl, sym, ap, ap₂, _∙_}
 use mathlib.Core.List.{List, [], _∷_, _++_, map, append-nil}
 use Prim.Native.Nat.{ℕ, _+_, _*_, _^_, _≤_, _<_}
 use native.Mathlib.Numerals.{add-one}
 use native.Mathlib.Omega.{arith}
-use lib.ListN.{length, getD, drop, drop-of-length-le}
+use lib.ListN.{length, getD, set, drop, drop-of-length-le}
 use lib.Seq.{sets, drop-drop, drop-cons, getD-drop}
 use Rattle.base.specs.Lists.{Each}
 use Rattle.octets.specs.Le.{bytesLe}
@@ -15,18 +15,18 @@ use Rattle.reversal.specs.Chains.{absent, item}
 use Rattle.book.specs.declared.State.{State}
 use Rattle.book.specs.declared.Scan.the-variants.{Read, Fault}
 use Rattle.book.specs.Book.{Move, Book, AllowedMove, AllowedBook, deviceOf, frame, framed, moveRec, itemRec, recordsOf, bytesOf}
-use Rattle.book.specs.Parse.{Row, cutAfter, cut, movesIn, itemsIn, parse, scan, atStart}
+use Rattle.book.specs.Parse.{Row, cutAfter, cut, weightsIn, movesIn, itemsIn, parse, scan, atStart}
 use Rattle.book.specs.Parse.Row.{End}
 use Rattle.book.specs.Parse.Parsed.{Ok, Refused}
 use Rattle.book.specs.Lent.{slotOf, slotsBytes}
-use Rattle.book.specs.Buffers.{zeroed, filled, tableOf, slotsOf}
+use Rattle.book.specs.Buffers.{zeroed, filled, tableOf, slotsOf, weightsLeft}
 use Rattle.book.proofs.Fields.{mask-fits}
 use Rattle.book.proofs.Bodies.{first-eight}
 use Rattle.book.proofs.Cut.{onto}
 use Rattle.book.proofs.Scanning.{cut-book, stateOf}
 use Rattle.book.proofs.Reading.{scan-whole, parse-fine}
 use Rattle.book.proofs.Slots.{length-slot}
-use Rattle.items.specs.Items.{Begins, ItemStands}
+use Rattle.items.specs.Items.{MovesBegin, Begins, ItemStands}
 use Rattle.items.proofs.Laws.{allowed}
 use Rattle.items.proofs.Walk.{kind-at, past-move, no-move, one-more, all-passed}
 use Rattle.reader.specs.Reads.{done}
@@ -41,10 +41,6 @@ module _ (s : List ℕ) (b : Book) (e : bytesOf b ≡ s) where
   pub m-at : getD s 5 0 ≡ b .m
   unfolding frame bytesLe
   m-at = rw (← e)
-
-  moves-at : drop 6 s ≡ framed (map moveRec (b .moves) ++ map itemRec (b .items))
-  unfolding frame bytesLe
-  moves-at = rw (← e)
 
 -- ---- a move
 module _ (s : List ℕ) (at : ℕ) (x : Move) (t : List ℕ) (e : drop at s ≡ frame (moveRec x) ++ t) where
@@ -67,8 +63,8 @@ pub record Entering (s : List ℕ) (b : Book) (whole : List ℕ) (at : ℕ) (tab
   pub rest : drop at s ≡ framed (map moveRec left ++ map itemRec (b .items))
   pub gives : filled (b .m) left table ≡ whole
 
-pub entering : (s : List ℕ) (b : Book) (t : List ℕ) → AllowedBook b → bytesOf b ≡ s → Entering s b (filled (b .m) (b .moves) t) 6 t
-entering s b t a e = record { left = b .moves; allowed = a .each-move; rest = moves-at s b e; gives = refl }
+pub entering : {s : List ℕ} {b : Book} {at : ℕ} (t : List ℕ) → AllowedBook b → MovesBegin s b at → Entering s b (filled (b .m) (b .moves) t) at t
+entering {b = b} t a e = record { left = b .moves; allowed = a .each-move; rest = e; gives = refl }
 
 pub table-is : (b : Book) (n m : ℕ) (t t′ : List ℕ) → n ≡ b .n → m ≡ b .m → t′ ≡ zeroed (n * m) t → filled (b .m) (b .moves) t′ ≡ tableOf b t
 table-is b n m t t′ p q z = ap (filled (b .m) (b .moves)) (z ∙ ap₂ (λ (x y : ℕ). zeroed (x * y) t) p q)
@@ -145,6 +141,29 @@ module _ {s : List ℕ} {b : Book} {whole : List ℕ} {at i : ℕ} {slots : List
       let none : drop i (b .items) ≡ [] = drop-of-length-le (b .items) past in
       rw none at (g .gives)
 
+-- ---- the pass over the weights
+pub record Weighing (b : Book) (whole : List ℕ) (command : ℕ) (weights : List ℕ) : Type 0 where
+  pub gives : sets weights command (drop command (b .weights)) ≡ whole
+
+pub weighing : (b : Book) (weights : List ℕ) → Weighing b (weightsLeft b weights) 0 weights
+weighing b weights = record { gives = refl }
+
+module _ {b : Book} {whole : List ℕ} {command : ℕ} {weights : List ℕ} (a : AllowedBook b) (g : Weighing b whole command weights) where
+  pub weighed : command < b .m → (v : ℕ) → v ≡ getD (b .weights) command 0 → (weights′ : List ℕ) → weights′ ≡ set weights command v
+      → Weighing b whole (command + 1) weights′
+  weighed h v e weights′ s =
+      record {
+        gives =
+            rw (s, e, add-one command)
+            (ap (λ (l : List ℕ). sets weights command l) (sym (drop-cons (b .weights) command 0 (omega (arith, a .weighed .count)))) ∙ g .gives);
+      }
+
+  pub all-weighed : b .m ≤ command → weights ≡ whole
+  all-weighed h =
+      let past : length (b .weights) ≤ command = omega (arith, a .weighed .count) in
+      let none : drop command (b .weights) ≡ [] = drop-of-length-le (b .weights) past in
+      rw none at (g .gives)
+
 -- ---- a book that is read
 pub record Found (s : List ℕ) (st : State) : Type 0 where
   pub book : Book
@@ -156,7 +175,7 @@ pub record Found (s : List ℕ) (st : State) : Type 0 where
 pub found : (s : List ℕ) (st : State) → Each (λ x. x < 256) s → scan (cut s) 0 atStart ≡ Read st → Found s st
 unfolding parse cutAfter
 found s st b e =
-    let x : Book = record { n = st .n; m = st .m; moves = movesIn (cut s); items = itemsIn (cut s) } in
+    let x : Book = record { n = st .n; m = st .m; weights = weightsIn (st .m) (cut s); moves = movesIn (cut s); items = itemsIn (cut s) } in
     let p : parse s ≡ Ok x = rw e in
     let (a, same) = parse-fine s x b p in
     record {

@@ -1,26 +1,42 @@
 -- Laws of the reader's steps, over plain variables. Assumes nothing.
 use mathlib.Core.Path.{_≡_, refl, sym, ap, _∙_}
+use mathlib.Core.Bool.{true, false, not}
 use mathlib.Core.List.{List}
 use Prim.Native.Nat.{ℕ, _+_, _-_, _*_, _≤_, _<_}
 use native.Mathlib.Nat.{mul-le-mul}
 use native.Mathlib.Omega.{arith}
-use lib.ListN.{getD, take, drop}
+use lib.ListN.{length, getD, take, drop}
 use lib.Seq.{drop-drop}
 use Rattle.octets.specs.Parts.{le, leAt}
+use Rattle.base.proofs.Picks.{tests}
 use Rattle.book.specs.declared.Kind.{Kind}
+use Rattle.book.specs.declared.Kind.the-variants.{MoveRecord}
 use Rattle.book.specs.declared.MaybeKind.{MaybeKind}
 use Rattle.book.specs.declared.MaybeKind.the-variants.{Known, Unknown}
 use Rattle.book.specs.declared.State.{State}
 use Rattle.book.specs.declared.Step.{Step}
-use Rattle.book.specs.declared.Step.the-variants.{Stop}
-use Rattle.book.specs.Limits.{itemWith}
-use Rattle.book.specs.Parse.{kindOf, itemOf, judgedAs, judged, step}
+use Rattle.book.specs.declared.Step.the-variants.{Go, Stop}
+use Rattle.book.specs.Limits.{moveFine, moveWith, itemWith}
+use Rattle.book.specs.Parse.{kindOf, moveOf, itemOf, judgedAs, judged, step}
 use Rattle.reader.specs.Judged.{Counted, rec}
 
 -- a move's index is small
 pub index-small : (state m command : ℕ) → state < 256 → m < 256 → command < 256 → (state * m ≤ 65025) × (state * m + command < 65281)
 index-small state m command hs hm hc =
     let l : state * m ≤ 255 * 255 = mul-le-mul {n₂ = 255} {m₂ = 255} (omega arith) (omega arith) in (omega arith, omega arith)
+
+-- ---- a move
+module _ (st : State) (body : List ℕ) (state command mask : ℕ) (es : state ≡ getD body 0 0) (ec : command ≡ getD body 1 0) (em : mask ≡ leAt 8 body 2) where
+  move-is : moveOf body ≡ moveWith state command mask
+  unfolding moveOf
+  move-is = rw (es, ec, em)
+
+  -- every test is passed
+  pub move-goes : 2 ≤ st .phase → length body ≡ 10 → moveFine (st .n) (st .m) (moveWith state command mask) ≡ true → st .low ≤ state * st .m + command
+      → Go (record { phase = 2; n = st .n; m = st .m; low = state * st .m + command + 1; items = st .items }) ≡ judgedAs MoveRecord st body
+  move-goes p l f r =
+      let g : not (moveFine (st .n) (st .m) (moveWith state command mask)) ≡ false = ap not f in
+      rw move-is (search tests depth 20)
 
 -- ---- the fields of an item's body
 module _ (body : List ℕ) (k r : ℕ) (ok : Counted body k r) where

@@ -1,4 +1,4 @@
--- Stores into the table, over plain variables. Assumes nothing.
+-- Stores into table and weights, over plain variables. Assumes nothing.
 use mathlib.Core.Path.{_≡_, refl, sym, ap, _∙_}
 use mathlib.Core.List.{List, [], _∷_}
 use Prim.Native.Nat.{ℕ, zero, suc, _+_, _*_, _≤_}

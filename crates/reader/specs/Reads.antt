@@ -1,4 +1,4 @@
--- What reading answers and leaves in the lent buffers (01, "The book's bytes" and its table of codes), for the reader.
+-- What reading answers and leaves in the lent buffers (01, "The book's bytes" and its table of codes; 02's 13), for the reader.
 -- Assumes nothing: these are definitions.
 use mathlib.Core.Path.{_≡_}
 use mathlib.Core.List.{List}
@@ -28,7 +28,7 @@ pub record Filled (book : List ℕ) (l : Lent) (b : Book) (l′ : Lent) : Type 0
 pub data Reads (book : List ℕ) (l : Lent) (result : Reading) (l′ : Lent) : Type 0 where
   -- "1, 0: a lent buffer shorter than stated; all untouched"
   short : (LongEnough (sizes l) → ⊥) → result ≡ refusal 1 0 → l′ ≡ l → Reads book l result l′
-  -- "then record by record 2, 3, 7, 4, 5, 6, the first faulty record deciding"; "untouched"
+  -- "then record by record 2, 3, 7, 4, 5, 6, the first faulty record deciding"; 02's 13; "untouched"
   faulty : LongEnough (sizes l) → {code place : ℕ} → Refusal book code place → result ≡ refusal code place → l′ ≡ l → Reads book l result l′
   -- "0, 0: done"
   fine : (b : Book) → Filled book l b l′ → result ≡ done b → Reads book l result l′

@@ -1,4 +1,4 @@
-// Filling the table from a book's bytes, entry by entry.
+// Filling the table and the weights from a book's bytes, entry by entry.
 ghost use mathlib.Core.Path.{_≡_};
 ghost use Prim.Native.Nat.{_<_};
 ghost use lib.ListN.{length, set};
@@ -11,6 +11,15 @@ fn store(table: &mut [u64], i: usize, v: u64)
 {
     if i < table.len() {
         table[i] = v;
+    }
+}
+
+// The same of a weight.
+pub(crate) fn store_weight(weights: &mut [u16], i: usize, v: u16)
+    ensures { λ _. ⌜ now (weights .exit) ≡ set (now (weights .entry)) i v ⌝ }
+{
+    if i < weights.len() {
+        weights[i] = v;
     }
 }
 

@@ -1,4 +1,4 @@
-// Reading a book into a lent table and lent slots.
+// Reading a book into a lent table, lent slots and lent weights.
 mod fill;
 mod scan;
 mod steps;
@@ -11,7 +11,7 @@ ghost use Rattle.book.specs.Parse.{cut, atStart};
 ghost use Rattle.book.specs.Parse as parse;
 ghost use Rattle.book.specs.Lent.{lent};
 ghost use Rattle.reader.specs.Judged.{ScanBounded};
-ghost use Rattle.reader.specs.Filling.{TableFilled, SlotsFilled};
+ghost use Rattle.reader.specs.Filling.{TableFilled, SlotsFilled, WeightsFilled};
 ghost use Rattle.reader.specs.Reads.{refusal};
 ghost use Rattle.reader.specs.Contract.{ReadAs};
 
@@ -59,7 +59,7 @@ pub fn fill_table(book: &[u8], table: &mut [u64]) -> usize
     let n = octets::byte_at(book, 4);
     let m = octets::byte_at(book, 5);
     fill::clear(table, (n * m) as usize);
-    let mut at: usize = 6;
+    let mut at = items::first_move(book);
     while octets::u16_at(book, at + 2) == 2 {
         fill::put_move(book, at, m, table);
         at = at + 14;
@@ -82,6 +82,22 @@ pub fn fill_slots(book: &[u8], first: usize, slots: &mut [u8])
     }
 }
 
+// Fills the weights from the bytes of an allowed book, one for each command.
+pub fn fill_weights(book: &[u8], weights: &mut [u16])
+    ensures { λ _. ⌜ WeightsFilled (now (book .entry)) (now (weights .entry)) (now (weights .exit)) ⌝ }
+{
+    let m = octets::byte_at(book, 5) as usize;
+    let mut command: usize = 0;
+    while command < m {
+        fill::store_weight(
+            weights,
+            command,
+            items::weight_at(book, command as u8) as u16,
+        );
+        command = command + 1;
+    }
+}
+
 // A refusal, whose counts are 0.
 pub fn refused(code: u64, place: u64) -> Reading
     ensures { λ r. ⌜ r ≡ refusal code place ⌝ }
@@ -95,16 +111,19 @@ pub fn refused(code: u64, place: u64) -> Reading
     }
 }
 
-// Reads a book into a table of at least 2,048 entries and slots of at least 2,176 bytes. Nothing is filled before the last record
-// is judged.
-pub fn read(book: &[u8], table: &mut [u64], slots: &mut [u8]) -> Reading
-    ensures { λ r. ⌜ ReadAs (now (book .entry)) (lent (now (table .entry)) (now (slots .entry))) r
-        (lent (now (table .exit)) (now (slots .exit))) ⌝ }
+// Reads a book into a table of at least 2,048 entries, slots of at least 2,176 bytes and at least 32 weights. Nothing is filled before the last
+// record is judged.
+pub fn read(book: &[u8], table: &mut [u64], slots: &mut [u8], weights: &mut [u16]) -> Reading
+    ensures { λ r. ⌜ ReadAs (now (book .entry)) (lent (now (table .entry)) (now (slots .entry)) (now (weights .entry))) r
+        (lent (now (table .exit)) (now (slots .exit)) (now (weights .exit))) ⌝ }
 {
     if table.len() < book::TABLE_LEN {
         return refused(1, 0);
     }
     if slots.len() < book::SLOTS_LEN {
+        return refused(1, 0);
+    }
+    if weights.len() < book::WEIGHTS_LEN {
         return refused(1, 0);
     }
     let seen = judge(book);
@@ -113,6 +132,7 @@ pub fn read(book: &[u8], table: &mut [u64], slots: &mut [u8]) -> Reading
         Scan::Read(st) => {
             let first = fill_table(book, table);
             fill_slots(book, first, slots);
+            fill_weights(book, weights);
             Reading {
                 code: 0,
                 place: 0,

@@ -4,9 +4,10 @@ use book::MaybeKind;
 use book::State;
 use book::Step;
 ghost use mathlib.Core.Path.{_≡_};
-ghost use Rattle.book.specs.declared.Kind.the-variants.{DeviceRecord, MoveRecord, ItemRecord};
-ghost use Rattle.book.specs.Limits.{fieldsFine};
-ghost use Rattle.book.specs.Parse.{kindOf, itemOf, judgedAs, step};
+ghost use Rattle.book.specs.declared.Kind.the-variants.{DeviceRecord, WeightsRecord, MoveRecord, ItemRecord};
+ghost use Rattle.book.specs.Book.{allOne};
+ghost use Rattle.book.specs.Limits.{weightsFine, fieldsFine};
+ghost use Rattle.book.specs.Parse.{kindOf, weightsOf, itemOf, judgedAs, step};
 ghost use Rattle.reader.specs.Judged.{Limits, Bounded, Counted, rec};
 
 // The kind with this number.
@@ -21,6 +22,9 @@ fn kind_of(number: u64) -> MaybeKind
     }
     if number == 3 {
         return MaybeKind::Known(Kind::ItemRecord);
+    }
+    if number == 5 {
+        return MaybeKind::Known(Kind::WeightsRecord);
     }
     MaybeKind::Unknown
 }
@@ -42,11 +46,66 @@ fn device_step(st: State, body: &[u8]) -> Step
         return Step::Stop(5);
     }
     Step::Go(State {
-        phase: 1,
+        phase: 3,
         n: n,
         m: m,
         low: 0,
         items: 0,
+    })
+}
+
+// Whether each of the weights in a body is from 1 to 1,000.
+fn weights_fine(body: &[u8]) -> bool
+    ensures { λ r. ⌜ r ≡ weightsFine (weightsOf (now (body .entry))) ⌝ }
+{
+    let mut at: usize = 0;
+    while at + 1 < body.len() {
+        if !limits::weight_fine(octets::u16_at(body, at)) {
+            return false;
+        }
+        at = at + 2;
+    }
+    true
+}
+
+// Whether each of them is 1.
+fn all_one(body: &[u8]) -> bool
+    ensures { λ r. ⌜ r ≡ allOne (weightsOf (now (body .entry))) ⌝ }
+{
+    let mut at: usize = 0;
+    while at + 1 < body.len() {
+        if octets::u16_at(body, at) != 1 {
+            return false;
+        }
+        at = at + 2;
+    }
+    true
+}
+
+// A record of weights: two bytes for each command.
+fn weights_step(st: State, body: &[u8]) -> Step
+    requires { ⌜ Limits st ⌝ }
+    ensures { λ r. ⌜ r ≡ judgedAs WeightsRecord st (now (body .entry)) ⌝ }
+    ensures { λ r. ⌜ Bounded r ⌝ }
+{
+    if st.phase != 3 {
+        return Step::Stop(3);
+    }
+    if body.len() != 2 * st.m as usize {
+        return Step::Stop(4);
+    }
+    if !weights_fine(body) {
+        return Step::Stop(5);
+    }
+    if all_one(body) {
+        return Step::Stop(13);
+    }
+    Step::Go(State {
+        phase: 2,
+        n: st.n,
+        m: st.m,
+        low: st.low,
+        items: st.items,
     })
 }
 
@@ -56,7 +115,7 @@ fn move_step(st: State, body: &[u8]) -> Step
     ensures { λ r. ⌜ r ≡ judgedAs MoveRecord st (now (body .entry)) ⌝ }
     ensures { λ r. ⌜ Bounded r ⌝ }
 {
-    if st.phase != 1 {
+    if st.phase < 2 {
         return Step::Stop(3);
     }
     if body.len() != 10 {
@@ -73,7 +132,7 @@ fn move_step(st: State, body: &[u8]) -> Step
         return Step::Stop(6);
     }
     Step::Go(State {
-        phase: 1,
+        phase: 2,
         n: st.n,
         m: st.m,
         low: index + 1,
@@ -118,7 +177,7 @@ fn item_step(st: State, body: &[u8]) -> Step
         return Step::Stop(5);
     }
     Step::Go(State {
-        phase: 2,
+        phase: 1,
         n: st.n,
         m: st.m,
         low: st.low,
@@ -136,6 +195,7 @@ pub(crate) fn record_step(st: State, number: u64, body: &[u8]) -> Step
         MaybeKind::Unknown => Step::Stop(3),
         MaybeKind::Known(kind) => match kind {
             Kind::DeviceRecord => device_step(st, body),
+            Kind::WeightsRecord => weights_step(st, body),
             Kind::MoveRecord => move_step(st, body),
             Kind::ItemRecord => item_step(st, body),
         },

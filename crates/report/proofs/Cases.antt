@@ -37,7 +37,7 @@ left-lines {a} {room} {r} {room′} l counted =
     rw (l .result-is, front)
 
 -- what a case prints
-module _ (u : Run) (a : Answer) (gives : BytesGive inBytes u a) (short : length (runBytes u) ≤ 302) (bytes : allBelow 256 (runBytes u) ≡ true)
+module _ (u : Run) (a : Answer) (gives : BytesGive inBytes bytesQ u a) (short : length (runBytes u) ≤ 302) (bytes : allBelow 256 (runBytes u) ≡ true)
     (counted : a .commands ≡ length (a .plan-bytes)) where
   prints-answer : Prints bytesQ (runBytes u) (linesOf (a .code) 0 (a .commands) (a .leg-count) (a .plan-bytes))
   unfolding pick less allBelow
@@ -58,7 +58,7 @@ module _ (u : Run) (a : Answer) (gives : BytesGive inBytes u a) (short : length 
       held n = omega (arith, length-replicate {A = ℕ} n 0)
 
       long : LongEnough (allSizes inBytes zeros)
-      long = (held 256, (held 96, (held 2048, (held 2176, tt))))
+      long = (held 256, (held 96, (held 2048, (held 2176, (held 32, tt)))))
 
 pub examples : Examples
 unfolding decimalIn decimal line linesOf pick less same frame bytesLe masksBytes allBelow

@@ -22,17 +22,17 @@ Zeroed book run = AssembleAs inBytes book run zeros
 
 -- ---- `report` meets its contract
 
-module _ (book run : List ℕ) {r : Assembly} {l : AllLent ℕ} (c : Zeroed (take 31111 book) (take 302 run) r l) where
+module _ (book run : List ℕ) {r : Assembly} {l : AllLent ℕ} (c : Zeroed (take 31179 book) (take 302 run) r l) where
   pub text-is : linesFor r (l .room .plan) ≡ textOf book run
   unfolding textOf
   text-is = ap₂ (λ (x : Assembly) (y : Room ℕ). linesFor x (y .plan)) (c .result) (c .room-is)
 
-pub reported : {book run : List ℕ} {i j : ℕ} {r : Assembly} {l : AllLent ℕ} {out : List ℕ} {n : ℕ} {out′ : List ℕ} → i ≡ min 31111 (length book)
+pub reported : {book run : List ℕ} {i j : ℕ} {r : Assembly} {l : AllLent ℕ} {out : List ℕ} {n : ℕ} {out′ : List ℕ} → i ≡ min 31179 (length book)
     → j ≡ min 302 (length run) → Zeroed (take i book) (take j run) r l → out′ ≡ sets out 0 (linesFor r (l .room .plan)) → n ≡ length (linesFor r (l .room .plan)) → n ≤ 5461
     → ReportAs book run out n out′
 reported {book} {run} {i} {j} {r} {l} {out} {n} {out′} p q c row size most =
-    let cut : Zeroed (take 31111 book) (take 302 run) r l = subst₂ (λ (x y : List ℕ). Zeroed x y r l)
-    (ap (λ (k : ℕ). take k book) p ∙ take-min 31111 book) (ap (λ (k : ℕ). take k run) q ∙ take-min 302 run) c in
+    let cut : Zeroed (take 31179 book) (take 302 run) r l = subst₂ (λ (x y : List ℕ). Zeroed x y r l)
+    (ap (λ (k : ℕ). take k book) p ∙ take-min 31179 book) (ap (λ (k : ℕ). take k run) q ∙ take-min 302 run) c in
     record {
       bytes = cut .bytes;
       run-bytes = cut .run-bytes;
@@ -43,14 +43,14 @@ reported {book} {run} {i} {j} {r} {l} {out} {n} {out′} p q c row size most =
 
 -- ---- what 01 says of the text
 
-module _ (book run : List ℕ) {r : Assembly} {l : AllLent ℕ} (c : Zeroed (take 31111 book) (take 302 run) r l) where
+module _ (book run : List ℕ) {r : Assembly} {l : AllLent ℕ} (c : Zeroed (take 31179 book) (take 302 run) r l) where
   plan-length : length (l .room .plan) ≡ 256
   plan-length = go (outcome even-bytes c)
     where
       at : {x : Room ℕ} → l .room ≡ x → length (l .room .plan) ≡ length (x .plan)
       at e = ap (λ (x : Room ℕ). length (x .plan)) e
 
-      go : Outcome inBytes (take 31111 book) (take 302 run) zeros → length (l .room .plan) ≡ 256
+      go : Outcome inBytes (take 31179 book) (take 302 run) zeros → length (l .room .plan) ≡ 256
       go (refused code place e) = at (c .room-is ∙ e _ _ _) ∙ length-replicate {A = ℕ} 256 0
       go (given a small e) = at (c .room-is ∙ e _ _ _) ∙ length-sets (replicate 256 0) 0 (a .plan-bytes) ∙ length-replicate {A = ℕ} 256 0
 
@@ -67,8 +67,8 @@ module _ (book run : List ℕ) {r : Assembly} {l : AllLent ℕ} (c : Zeroed (tak
       }
 
 -- any bytes are assembled, and some text is printed for them
-module _ (book run : List ℕ) (b : Bytes (take 31111 book)) (u : Bytes (take 302 run)) where
-  pub zeroed : (l : AllLent ℕ) × Zeroed (take 31111 book) (take 302 run) (resultFor book run) l
+module _ (book run : List ℕ) (b : Bytes (take 31179 book)) (u : Bytes (take 302 run)) where
+  pub zeroed : (l : AllLent ℕ) × Zeroed (take 31179 book) (take 302 run) (resultFor book run) l
   zeroed = (record { read = _; room = _ }, record { bytes = b; run-bytes = u; result = refl; read-is = refl; room-is = refl })
 
   pub prints : Prints book run (textOf book run)
@@ -78,8 +78,8 @@ pub reports : {book run out : List ℕ} {r : ℕ} {out′ : List ℕ} → Report
 reports {book} {run} c =
     record { text = textOf book run; prints = prints book run (c .bytes) (c .run-bytes); size = c .size; most = c .most; stored = c .stored }
 
--- "judges at most the first 31,111 bytes of book.bin and 302 of run.bin": what lies past them changes nothing
-pub prints-first : {book run book′ run′ text : List ℕ} → take 31111 book ≡ take 31111 book′ → take 302 run ≡ take 302 run′ → Prints book run text → Prints book′ run′ text
+-- "judges at most the first 31,111 bytes of book.bin and 302 of run.bin", with 02 31,179: what lies past them changes nothing
+pub prints-first : {book run book′ run′ text : List ℕ} → take 31179 book ≡ take 31179 book′ → take 302 run ≡ take 302 run′ → Prints book run text → Prints book′ run′ text
 prints-first p q w =
     record {
       result = w .result;

@@ -15,7 +15,7 @@ use Rattle.report.specs.Prints.{zeros}
 
 -- assembling, of the bytes that are judged and zeroed buffers
 abbrev pub judgedBy : {A : Type 0} → List ℕ → List ℕ → (ℕ → ℕ → A) → (Answer → A) → A
-judgedBy book run = assembleBy inBytes (take 31111 book) (take 302 run) zeros
+judgedBy book run = assembleBy inBytes (take 31179 book) (take 302 run) zeros
 
 abbrev pub resultFor : List ℕ → List ℕ → Assembly
 resultFor book run = judgedBy book run refusal resultOf
@@ -32,7 +32,7 @@ textOf book run = linesFor (resultFor book run) (planFor book run)
 
 -- the contract of `report`
 pub record ReportAs (book run out : List ℕ) (r : ℕ) (out′ : List ℕ) : Type 0 where
-  pub bytes : Bytes (take 31111 book)
+  pub bytes : Bytes (take 31179 book)
   pub run-bytes : Bytes (take 302 run)
   pub size : r ≡ length (textOf book run)
   pub most : r ≤ 5461

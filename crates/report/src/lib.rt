@@ -15,15 +15,16 @@ fn at_most(most: usize, bytes: &[u8]) -> usize
     }
 }
 
-// Cuts the book to its first 31,111 bytes and the run to its first 302, assembles, and stores the lines at the start of `out`. The answer is their
+// Cuts the book to its first 31,179 bytes and the run to its first 302, assembles, and stores the lines at the start of `out`. The answer is their
 // length, at most 5,461; what does not fit in the row is not stored, and is counted all the same.
 pub fn report(book: &[u8], run: &[u8], out: &mut [u8]) -> usize
     ensures { λ r. ⌜ ReportAs (now (book .entry)) (now (run .entry)) (now (out .entry)) r (now (out .exit)) ⌝ }
 {
-    let book_size = at_most(31111, book);
+    let book_size = at_most(31179, book);
     let run_size = at_most(302, run);
     let mut table = [0u64; book::TABLE_LEN];
     let mut slots = [0u8; book::SLOTS_LEN];
+    let mut weights = [0u16; book::WEIGHTS_LEN];
     let mut plan = [0u8; assembly::PLAN_LEN];
     let mut legs = [0u8; assembly::LEGS_LEN];
     let r = assembly::assemble(
@@ -31,6 +32,7 @@ pub fn report(book: &[u8], run: &[u8], out: &mut [u8]) -> usize
         &run[..run_size],
         &mut table,
         &mut slots,
+        &mut weights,
         &mut plan,
         &mut legs,
     );

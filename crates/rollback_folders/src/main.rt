@@ -13,9 +13,13 @@
 //   plan_256    the largest run, 301 bytes: 32 times command 0
 //   run_302     the same and one byte more: 9, where 301 bytes would give the plan
 //   run_602     the same run twice: 9, as for every run of over 301 bytes
-// 64 states, 32 commands, all moves, 64 items:
-//   book_31111  the largest book, 31,110 bytes, and one byte more: 2 at 31,110, where 31,110 bytes would give an empty plan
-//   book_31112  a book of 31,108 bytes and the header of a 65th item: 2 at 31,108, since three of its four bytes are judged; with the fourth it
+// Q's device with weights and two items, 1 / 0 1 and 1 / 1 1 1, and a run of command 1 in state 1:
+//   dear        the item with two commands costs 302, the one with three 6
+//   even        both items cost 6: the one that stands first, which has three commands
+//   ones        every weight is 1: 13 at the record of the weights
+// 64 states, 32 commands, weights, all moves, 64 items:
+//   book_31179  the largest book, 31,178 bytes, and one byte more: 2 at 31,178, where 31,178 bytes would give an empty plan
+//   book_31180  a book of 31,176 bytes and the header of a 65th item: 2 at 31,176, since three of its four bytes are judged; with the fourth it
 //               would be 7
 use libc::STDOUT_FILENO;
 
@@ -37,6 +41,9 @@ fn main() {
     print_folder(b"plan_256");
     print_folder(b"run_302");
     print_folder(b"run_602");
-    print_folder(b"book_31111");
-    print_folder(b"book_31112");
+    print_folder(b"dear");
+    print_folder(b"even");
+    print_folder(b"ones");
+    print_folder(b"book_31179");
+    print_folder(b"book_31180");
 }

@@ -87,3 +87,20 @@ pub fn print_words(t: &[u16], count: usize) -> usize
     io::write_all(STDOUT_FILENO, b"\n");
     i
 }
+
+// Prints the first numbers of 32 bits as a row; how many there were.
+pub fn print_longs(t: &[u32], count: usize) -> usize
+    ensures { λ r. ⌜ r ≤ length (now (t .entry)) ⌝ }
+{
+    let mut i: usize = 0;
+    while i < t.len() {
+        if i == count {
+            io::write_all(STDOUT_FILENO, b"\n");
+            return i;
+        }
+        print_next(i == 0, t[i] as u64);
+        i = i + 1;
+    }
+    io::write_all(STDOUT_FILENO, b"\n");
+    i
+}

@@ -1,4 +1,4 @@
--- Writing's refusals on worked tables and slots, by the chain of tests. Assumes nothing.
+-- Writing's refusals on worked tables, slots and weights, by the chain of tests. Assumes nothing.
 use mathlib.Core.Path.{_≡_, refl, ap, _∙_, subst₂}
 use mathlib.Core.Bool.{true}
 use mathlib.Core.Logic.{inl, inr}
@@ -13,12 +13,12 @@ use Rattle.base.specs.Compare.{less}
 use Rattle.base.specs.Masks.{clearFrom}
 use Rattle.base.specs.Shorter.{anyShort}
 use Rattle.octets.specs.Parts.{piece}
-use Rattle.book.specs.Limits.{deviceFine, countsFine, allBelow, fieldsFine}
+use Rattle.book.specs.Limits.{deviceFine, weightFine, countsFine, allBelow, fieldsFine}
 use Rattle.book.specs.Lent.{Lent}
 use Rattle.book.specs.Slots.{itemAt, slotFine}
 use Rattle.book.proofs.Fields.{all-on}
 use Rattle.writer.specs.declared.Writing.{Writing}
-use Rattle.writer.specs.Lowest.{lowestEntry, lowestSlot}
+use Rattle.writer.specs.Lowest.{lowestWeight, lowestEntry, lowestSlot}
 use Rattle.writer.specs.Contract.{checked}
 use Rattle.writer.specs.Writes.{Refuses, refusal, written}
 use Rattle.writer.specs.Cases.{Spoilt}
@@ -40,17 +40,20 @@ refused-by n m items l out code place b e q = go (judged n m items l out h)
         absurd (omega (arith, ap (λ (w : Writing). w .code) r))
 
 pub spoilt : Spoilt
-unfolding pick both seek less clearFrom anyShort piece deviceFine countsFine allBelow fieldsFine itemAt slotFine lowestEntry lowestSlot checked
+unfolding pick both seek less clearFrom anyShort piece deviceFine weightFine countsFine allBelow fieldsFine itemAt slotFine lowestWeight lowestEntry lowestSlot checked
 spoilt =
     record {
       short-table = refused-by _ _ _ _ _ _ _ refl refl (lit< tt);
       short-slots = refused-by _ _ _ _ _ _ _ refl refl (lit< tt);
+      short-weights = refused-by _ _ _ _ _ _ _ refl refl (lit< tt);
       short-output = refused-by _ _ _ _ _ _ _ refl refl (lit< tt);
       no-states = refused-by _ _ _ _ _ _ _ refl refl (lit< tt);
       states-65 = refused-by _ _ _ _ _ _ _ refl refl (lit< tt);
       no-commands = refused-by _ _ _ _ _ _ _ refl refl (lit< tt);
       commands-33 = refused-by _ _ _ _ _ _ _ refl refl (lit< tt);
       count-65 = refused-by _ _ _ _ _ _ _ refl refl (lit< tt);
+      weight-1 = refused-by _ _ _ _ _ _ _ refl refl (lit< tt);
+      weight-2 = refused-by _ _ _ _ _ _ _ refl refl (lit< tt);
       entry-2 = refused-by _ _ _ _ _ _ _ refl refl (lit< tt);
       slot-1 = refused-by _ _ _ _ _ _ _ refl refl (lit< tt);
       unused-byte = refused-by _ _ _ _ _ _ _ refl refl (lit< tt);

@@ -1,4 +1,4 @@
--- The chain of tests: what it gives in each of 01's cases. Assumes nothing.
+-- The chain of tests: what it gives in each of 01's and 02's cases. Assumes nothing.
 use mathlib.Core.Path.{_≡_, ap}
 use mathlib.Core.Bool.{true, false, not}
 use mathlib.Core.List.{List, []}
@@ -23,7 +23,7 @@ use Rattle.book.specs.Slots.{itemAt, slotFine}
 use Rattle.book.proofs.Slots.{item-fine}
 use Rattle.book.proofs.Limits.{device-of, device-off}
 use Rattle.writer.specs.Records.{CountsFine}
-use Rattle.writer.specs.Lowest.{lowestEntry, lowestSlot}
+use Rattle.writer.specs.Lowest.{lowestWeight, lowestEntry, lowestSlot}
 use Rattle.writer.specs.Contract.{checked}
 use Rattle.writer.specs.Writes.{buffers}
 
@@ -49,18 +49,23 @@ module _ (n m items : ℕ) (l : Lent) (out : List ℕ) {A : Type 0} (refuse : �
       at-count h = let s = enough in let d = sizes-fine in search tests depth 8
 
       module _ (few : items ≤ 64) where
-        pub at-entry : lowestEntry n (n * m) (l .table) < n * m → refuse 5 (lowestEntry n (n * m) (l .table)) ≡ checked n m items l out refuse fine
+        pub at-weight : lowestWeight m (l .weights) < m → refuse 5 (lowestWeight m (l .weights)) ≡ checked n m items l out refuse fine
         unfolding checked
-        at-entry h = let s = enough in let d = sizes-fine in search tests depth 8
+        at-weight h = let s = enough in let d = sizes-fine in search tests depth 8
 
-        module _ (entries : n * m ≤ lowestEntry n (n * m) (l .table)) where
-          pub at-slot : lowestSlot n m items (l .slots) < items → refuse 5 (lowestSlot n m items (l .slots)) ≡ checked n m items l out refuse fine
+        module _ (weights : m ≤ lowestWeight m (l .weights)) where
+          pub at-entry : lowestEntry n (n * m) (l .table) < n * m → refuse 5 (lowestEntry n (n * m) (l .table)) ≡ checked n m items l out refuse fine
           unfolding checked
-          at-slot h = let s = enough in let d = sizes-fine in search tests depth 8
+          at-entry h = let s = enough in let d = sizes-fine in search tests depth 9
 
-          pub at-end : items ≤ lowestSlot n m items (l .slots) → fine ≡ checked n m items l out refuse fine
-          unfolding checked
-          at-end h = let s = enough in let d = sizes-fine in search tests depth 8
+          module _ (entries : n * m ≤ lowestEntry n (n * m) (l .table)) where
+            pub at-slot : lowestSlot n m items (l .slots) < items → refuse 5 (lowestSlot n m items (l .slots)) ≡ checked n m items l out refuse fine
+            unfolding checked
+            at-slot h = let s = enough in let d = sizes-fine in search tests depth 10
+
+            pub at-end : items ≤ lowestSlot n m items (l .slots) → fine ≡ checked n m items l out refuse fine
+            unfolding checked
+            at-end h = let s = enough in let d = sizes-fine in search tests depth 10
 
 -- ---- for the code
 pub counts-fine : (n m c : ℕ) (s : List ℕ) → c ≤ lowestSlot n m c s → CountsFine c s

@@ -1,4 +1,4 @@
--- What follows from what 01 says of writing: what is written is a well-formed book, and 0 is answered exactly where one stands in table and slots.
+-- What follows from what 01 says of writing: what is written is a well-formed book, and 0 is answered exactly where one stands in the buffers.
 -- Assumes nothing.
 use mathlib.Core.Path.{_≡_, sym, ap, _∙_}
 use mathlib.Core.Logic.{_↔_}
@@ -13,7 +13,7 @@ use Rattle.book.specs.Lent.{Lent, Holds}
 use Rattle.book.proofs.Largest.{length-book}
 use Rattle.writer.specs.declared.Writing.{Writing}
 use Rattle.writer.specs.Writes.{buffers, Refuses, BookWritten, Writes}
-use Rattle.writer.specs.Writes.Refuses.{short, device, count, entry, slot}
+use Rattle.writer.specs.Writes.Refuses.{short, device, count, weight, entry, slot}
 use Rattle.writer.specs.Writes.Writes.{refused, done}
 use Rattle.writer.proofs.Exactly.{held-written}
 
@@ -27,8 +27,9 @@ module _ {n m items : ℕ} {l : Lent} {out : List ℕ} where
   some-code (short h) = omega arith
   some-code (device g h) = omega arith
   some-code (count g d h) = omega arith
-  some-code (entry g d f w) = omega arith
-  some-code (slot g d f e w) = omega arith
+  some-code (weight g d f w) = omega arith
+  some-code (entry g d f h w) = omega arith
+  some-code (slot g d f h e w) = omega arith
 
   module _ {r : Writing} {out′ : List ℕ} where
     -- 0 is answered where the book was written
@@ -37,7 +38,7 @@ module _ {n m items : ℕ} {l : Lent} {out : List ℕ} where
     done-of z (refused q e f) = absurd (omega (arith, some-code q, ap (λ (x : Writing). x .code) e))
     done-of z (done long b a h w) = (long, (b, a, h, w))
 
-    pub write-length : Writes n m items l out r out′ → r .length ≤ 31110
+    pub write-length : Writes n m items l out r out′ → r .length ≤ 31178
     write-length (refused q e f) = omega (arith, ap (λ (x : Writing). x .length) e)
     write-length (done long b a h w) = omega (arith, ap (λ (x : Writing). x .length) (w .answer), length-book b a)
 

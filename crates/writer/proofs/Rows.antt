@@ -14,7 +14,9 @@ use Rattle.base.specs.Tests.{pick}
 use Rattle.base.specs.Compare.{same}
 use Rattle.base.proofs.Picks.{same-yes, same-no}
 use Rattle.octets.proofs.Put.{sets-append}
-use Rattle.book.specs.Book.{frame, framed, moveRec, itemRec}
+use Rattle.octets.specs.Le.{bytesLe}
+use Rattle.octets.specs.Parts.{piece}
+use Rattle.book.specs.Book.{frame, framed, twoBytes, moveRec, itemRec}
 use Rattle.book.specs.Slots.{itemAt}
 use Rattle.book.specs.Buffers.{moveAt, movesFrom, itemsFrom}
 use Rattle.writer.specs.declared.records.Cell.{Cell}
@@ -95,3 +97,8 @@ move-rows t m = record { none = λ i. refl; more = λ k i. go k i (same (getD t 
 pub item-rows : (s : List ℕ) → Turns (λ i. frame (itemRec (itemAt s i))) (λ k i. itemsBytes k s i)
 unfolding itemsBytes itemsFrom
 item-rows s = record { none = λ i. refl; more = λ k i. refl }
+
+-- ---- the weights, two bytes each
+pub weight-rows : (w : List ℕ) → Turns (λ i. bytesLe 2 (getD w i 0)) (λ k i. twoBytes (piece k w i))
+unfolding twoBytes piece
+weight-rows w = record { none = λ i. refl; more = λ k i. refl }

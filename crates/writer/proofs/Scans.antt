@@ -1,12 +1,15 @@
--- The search for the lowest wrong entry or slot. Assumes nothing.
+-- The search for the lowest wrong weight, entry or slot, and the weights that are left. Assumes nothing.
 use mathlib.Core.Path.{_≡_, refl, sym, _∙_}
 use mathlib.Core.Bool.{Bool, true, false, not}
 use Prim.Native.Nat.{ℕ, suc, _+_, _-_, _<_, _≤_}
 use native.Mathlib.Numerals.{add-one}
 use native.Mathlib.Omega.{arith}
+use mathlib.Core.List.{List, [], _∷_}
+use lib.ListN.{getD}
 use Rattle.base.specs.Tests.{pick}
 use Rattle.base.specs.Bounded.{seek}
 use Rattle.base.proofs.Picks as P
+use Rattle.octets.specs.Parts.{piece}
 
 -- ---- the lowest number that passes a test
 module _ (f : ℕ → Bool) (k i : ℕ) (whole : ℕ) where
@@ -33,3 +36,14 @@ module _ (r t : Bool) where
 
   pub turned-off : r ≡ t → not r ≡ false → not t ≡ false
   turned-off e h = rw (← e) h
+
+-- ---- the first k elements, from i on
+pub piece-here : (w : List ℕ) (k i : ℕ) → i < k → piece (k - i) w i ≡ getD w i 0 ∷ piece (k - (i + 1)) w (i + 1)
+unfolding piece
+piece-here w k i h =
+    let e : k - i ≡ suc (k - (i + 1)) = omega arith in
+    rw (e, add-one i)
+
+pub piece-none : (w : List ℕ) (k i : ℕ) → k ≤ i → piece (k - i) w i ≡ []
+unfolding piece
+piece-none w k i h = let e : k - i ≡ 0 = omega arith in rw e

@@ -1,6 +1,7 @@
 -- The parts of a record are the record; the records are the book. Assumes nothing.
-use mathlib.Core.Path.{_≡_, refl, sym, ap, ap₂, _∙_}
-use mathlib.Core.List.{List, _++_, map, append-assoc}
+use mathlib.Core.Path.{_≡_, refl, ap, ap₂, _∙_}
+use mathlib.Core.Bool.{true, false}
+use mathlib.Core.List.{List, [], _++_, map, append-assoc, append-nil}
 use Prim.Native.Nat.{ℕ, _+_, _*_, _<_, _≤_}
 use native.Mathlib.Nat.{mul-le-mul}
 use native.Mathlib.Omega.{arith}
@@ -10,9 +11,12 @@ use Rattle.reversal.specs.Reversal.{Item}
 use Rattle.octets.specs.Le.{bytesLe}
 use Rattle.octets.proofs.Le.{byte-one, length-bytesLe}
 use Rattle.octets.proofs.Put.{first, then}
-use Rattle.book.specs.Book.{bytesOf, frame, framed, deviceRec, moveRec, itemRec}
+use Rattle.octets.specs.Parts.{piece}
+use Rattle.book.specs.Book.{bytesOf, frame, framed, deviceRec, twoBytes, weightsRec, allOne, weightsRecs, moveRec, itemRec}
+use Rattle.book.specs.Lent.{Lent}
 use Rattle.book.specs.Buffers.{movesFrom, itemsFrom, bookFrom}
-use Rattle.book.proofs.Bodies.{move-length, item-length}
+use Rattle.book.proofs.Bodies.{weights-length, move-length, item-length}
+use Rattle.book.proofs.Weights.{none-of-ones, one-of-others}
 use Rattle.book.proofs.Scanning.{length-frame, framed-append}
 use Rattle.writer.specs.Records.{move, movesBytes, itemsBytes, itemHead, itemTail}
 
@@ -28,6 +32,18 @@ move-record a b k h j = rw (byte-one a, byte-one b, move-length (move a b k)) (s
 
 pub length-move : (a b k : ℕ) → length (frame (moveRec (move a b k))) ≡ 14
 length-move a b k = omega (arith, length-frame (moveRec (move a b k)), move-length (move a b k))
+
+-- ---- weights
+pub weights-record : (ws : List ℕ) → bytesLe 2 (2 * length ws) ++ bytesLe 2 5 ++ twoBytes ws ≡ frame (weightsRec ws)
+unfolding frame
+weights-record ws = rw (weights-length ws) (simp append-assoc)
+
+module _ (ws : List ℕ) where
+  pub no-record : allOne ws ≡ true → framed (weightsRecs ws) ≡ []
+  no-record h = ap framed (none-of-ones ws h)
+
+  pub one-record : allOne ws ≡ false → framed (weightsRecs ws) ≡ frame (weightsRec ws)
+  one-record h = ap framed (one-of-others ws h) ∙ append-nil (frame (weightsRec ws))
 
 -- ---- item
 module _ (x : Item) (k r : ℕ) (ek : k ≡ length (x .forward)) (er : r ≡ length (x .reverse)) where
@@ -61,9 +77,12 @@ length-head k r = refl
 pub cells-below : (n m : ℕ) → n ≤ 64 → n * m ≤ 64 * m
 cells-below n m h = mul-le-mul {n₁ = n} {m₁ = m} {n₂ = 64} {m₂ = m} h (omega arith)
 
-pub book-bytes : (n m c : ℕ) (t s : List ℕ) → frame (deviceRec n m) ++ movesBytes (n * m) t 0 m ++ itemsBytes c s 0 ≡ bytesOf (bookFrom n m c t s)
+pub book-bytes : (n m c : ℕ) (l : Lent)
+    → frame (deviceRec n m) ++ framed (weightsRecs (piece m (l .weights) 0)) ++ movesBytes (n * m) (l .table) 0 m ++ itemsBytes c (l .slots) 0
+    ≡ bytesOf (bookFrom n m c l)
 unfolding movesBytes itemsBytes
-book-bytes n m c t s =
-    let M = map moveRec (movesFrom (n * m) t 0 m) in
-    let I = map itemRec (itemsFrom c s 0) in
-    append-assoc (frame (deviceRec n m)) (framed M) (framed I) ∙ ap (λ (l : List ℕ). frame (deviceRec n m) ++ l) (sym (framed-append M I))
+book-bytes n m c l =
+    let W = weightsRecs (piece m (l .weights) 0) in
+    let M = map moveRec (movesFrom (n * m) (l .table) 0 m) in
+    let I = map itemRec (itemsFrom c (l .slots) 0) in
+    rw (framed-append W (M ++ I), framed-append M I) (simp append-assoc)

@@ -1,4 +1,4 @@
--- The contract of `write`: the result and the output, by one chain of tests in 01's order. Writes says what it means; proofs/Exactly ties the two,
+-- The contract of `write`: the result and the output, by one chain of tests in their order. Writes says what it means; proofs/Exactly ties the two,
 -- both ways. Assumes nothing: these are definitions.
 use mathlib.Core.Path.{_≡_}
 use mathlib.Core.Bool.{not}
@@ -14,7 +14,7 @@ use Rattle.book.specs.Book.{bytesOf}
 use Rattle.book.specs.Limits.{deviceFine}
 use Rattle.book.specs.Lent.{Lent}
 use Rattle.book.specs.Buffers.{bookFrom}
-use Rattle.writer.specs.Lowest.{lowestEntry, lowestSlot}
+use Rattle.writer.specs.Lowest.{lowestWeight, lowestEntry, lowestSlot}
 use Rattle.writer.specs.Writes.{buffers, refusal, written}
 use Rattle.writer.specs.declared.Writing.{Writing}
 
@@ -24,12 +24,13 @@ checked n m items l out refuse fine =
     pick (anyShort (buffers l out)) (refuse 1 0)
     (pick (not (deviceFine n m)) (refuse 5 0)
     (pick (less 64 items) (refuse 7 0)
+    (pick (less (lowestWeight m (l .weights)) m) (refuse 5 (lowestWeight m (l .weights)))
     (pick (less (lowestEntry n (n * m) (l .table)) (n * m)) (refuse 5 (lowestEntry n (n * m) (l .table)))
-    (pick (less (lowestSlot n m items (l .slots)) items) (refuse 5 (lowestSlot n m items (l .slots))) fine))))
+    (pick (less (lowestSlot n m items (l .slots)) items) (refuse 5 (lowestSlot n m items (l .slots))) fine)))))
 
 -- the bytes of the book that they hold
 abbrev pub bookBytes : ℕ → ℕ → ℕ → Lent → List ℕ
-bookBytes n m items l = bytesOf (bookFrom n m items (l .table) (l .slots))
+bookBytes n m items l = bytesOf (bookFrom n m items l)
 
 -- the result and the output of a call; that the slots are bytes is what their type says
 pub record WriteAs (n m items : ℕ) (l : Lent) (out : List ℕ) (r : Writing) (out′ : List ℕ) : Type 0 where

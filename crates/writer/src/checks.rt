@@ -1,14 +1,28 @@
-// What writing refuses: entries with a bit at n or above, slots that hold no item as it should stand there.
+// What writing refuses: weights out of range, entries with a bit at n or above, slots that hold no item as it should stand there.
 ghost use mathlib.Core.Path.{_≡_};
 ghost use Prim.Native.Nat.{_≤_};
 ghost use lib.ListN.{getD};
-ghost use Rattle.writer.specs.Lowest.{lowestEntry, lowestSlot};
+ghost use Rattle.writer.specs.Lowest.{lowestWeight, lowestEntry, lowestSlot};
 
 // The entry i of a table, or 0 past its end.
 pub(crate) fn entry_at(t: &[u64], i: usize) -> u64
     ensures { λ r. ⌜ r ≡ getD (now (t .entry)) i 0 ⌝ }
 {
     if i < t.len() { t[i] } else { 0 }
+}
+
+// The lowest of the first k weights that no command may have; k where there is none.
+pub(crate) fn lowest_weight(k: usize, w: &[u16]) -> usize
+    ensures { λ r. ⌜ r ≡ lowestWeight k (now (w .entry)) ⌝ }
+{
+    let mut i: usize = 0;
+    while i < k {
+        if !limits::weight_fine(octets::word_at(w, i)) {
+            return i;
+        }
+        i = i + 1;
+    }
+    i
 }
 
 // The lowest of the first k entries with a bit at n or above; k where there is none.

@@ -4,7 +4,9 @@ ghost use mathlib.Core.Path.{_≡_};
 ghost use Prim.Native.Nat.{_+_, _*_, _<_, _≤_, _^_};
 ghost use lib.ListN.{length};
 ghost use lib.Seq.{sets};
-ghost use Rattle.book.specs.Book.{bytesOf, frame, deviceRec, moveRec, itemRec};
+ghost use Rattle.book.specs.Book.{bytesOf, allOne, twoBytes, frame, framed, deviceRec, weightsRecs, moveRec, itemRec};
+ghost use Rattle.octets.specs.Parts.{piece};
+ghost use Rattle.book.specs.Lent.{lent};
 ghost use Rattle.book.specs.Slots.{itemAt};
 ghost use Rattle.book.specs.Buffers.{bookFrom};
 ghost use Rattle.writer.specs.Records.{move, entryRow, movesBytes, CellAt, itemHead, itemTail, itemsBytes, CountsFine};
@@ -18,6 +20,44 @@ fn put_device(n: u64, m: u64, d: &mut [u8])
     octets::put_le(2, 1, d, 2);
     octets::put_le(1, n, d, 4);
     octets::put_le(1, m, d, 5);
+}
+
+// Whether each of the first k weights is 1.
+fn all_one(k: usize, w: &[u16]) -> bool
+    ensures { λ r. ⌜ r ≡ allOne (piece k (now (w .entry)) 0) ⌝ }
+{
+    for i in 0..k {
+        if octets::word_at(w, i) != 1 {
+            return false;
+        }
+    }
+    true
+}
+
+// The first k weights, two bytes each, from `at` on.
+fn put_each(k: usize, w: &[u16], d: &mut [u8], at: usize)
+    requires { ⌜ (k ≤ 32) × (at < 16) ⌝ }
+    ensures { λ _. ⌜ now (d .exit) ≡ sets (now (d .entry)) at (twoBytes (piece k (now (w .entry)) 0)) ⌝ }
+{
+    for i in 0..k {
+        octets::put_le(2, octets::word_at(w, i), d, at + 2 * i);
+    }
+}
+
+// The record of the first m weights, from 6 on, left out where each is 1. The answer is the place after it.
+fn put_weights(m: usize, w: &[u16], d: &mut [u8]) -> usize
+    requires { ⌜ m ≤ 32 ⌝ }
+    ensures { λ _. ⌜ now (d .exit) ≡ sets (now (d .entry)) 6 (framed (weightsRecs (piece m (now (w .entry)) 0))) ⌝ }
+    ensures { λ r. ⌜ r ≡ 6 + length (framed (weightsRecs (piece m (now (w .entry)) 0))) ⌝ }
+    ensures { λ r. ⌜ r ≤ 74 ⌝ }
+{
+    if all_one(m, w) {
+        return 6;
+    }
+    octets::put_le(2, 2 * m as u64, d, 6);
+    octets::put_le(2, 5, d, 8);
+    put_each(m, w, d, 10);
+    10 + 2 * m
 }
 
 // The record of a move, from `at` on.
@@ -150,13 +190,16 @@ pub(crate) fn put_book(
     c: usize,
     table: &[u64],
     slots: &[u8],
+    weights: &[u16],
     out: &mut [u8],
 ) -> usize
     requires { ⌜ (n ≤ 64) × (1 ≤ m) × (m ≤ 32) × (c ≤ 64) × CountsFine c (now slots) ⌝ }
-    ensures { λ _. ⌜ now (out .exit) ≡ sets (now (out .entry)) 0 (bytesOf (bookFrom n m c (now (table .entry)) (now (slots .entry)))) ⌝ }
-    ensures { λ r. ⌜ r ≡ length (bytesOf (bookFrom n m c (now (table .entry)) (now (slots .entry)))) ⌝ }
+    ensures { λ _. ⌜ now (out .exit) ≡ sets (now (out .entry)) 0
+        (bytesOf (bookFrom n m c (lent (now (table .entry)) (now (slots .entry)) (now (weights .entry))))) ⌝ }
+    ensures { λ r. ⌜ r ≡ length (bytesOf (bookFrom n m c (lent (now (table .entry)) (now (slots .entry)) (now (weights .entry))))) ⌝ }
 {
     put_device(n, m, out);
-    let p = put_moves((n * m) as usize, table, m, out, 6);
+    let first = put_weights(m as usize, weights, out);
+    let p = put_moves((n * m) as usize, table, m, out, first);
     put_items(c, slots, out, p)
 }

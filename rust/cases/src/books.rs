@@ -67,10 +67,11 @@ fn largest_rows() -> Vec<Vec<u8>> {
         .collect()
 }
 
-/// 31,110 bytes: 2,048 moves of one outcome each, 64 items with k = r = 8 and
-/// all states in phi and psi.
+/// 31,178 bytes: weights of 969 to 1,000, 2,048 moves of one outcome each, 64
+/// items with k = r = 8 and all states in phi and psi.
 pub fn largest_book() -> Vec<u8> {
-    let device = permutations(&mut Rng::new(1), 64, 32);
+    let mut device = permutations(&mut Rng::new(1), 64, 32);
+    device.weights = (969..=1000).collect();
     let rows = largest_rows();
     let items: Vec<Item> = (0..64)
         .map(|number| Item {
@@ -151,7 +152,7 @@ fn branching_rows() -> Vec<Vec<u8>> {
 }
 
 /// 31,110 bytes: 2,048 moves, most with 2 to 4 outcomes, 64 items with
-/// k = r = 8, psi of all states and phi of all but the four traps.
+/// k = r = 8, psi of all states and phi of all but the four traps; no weights.
 pub fn branching_book() -> Vec<u8> {
     let rows = branching_rows();
     let items: Vec<Item> = (0..64)

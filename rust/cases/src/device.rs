@@ -1,12 +1,13 @@
 //! Devices, items and runs as values, and their bytes.
 
-/// A device's table. Where command b undoes command a in every state,
-/// `inverse[a]` may name b.
+/// A device's table and its commands' weights. Where command b undoes command a
+/// in every state, `inverse[a]` may name b.
 #[derive(Clone, Debug)]
 pub struct Device {
     pub n: usize,
     pub m: usize,
     pub table: Vec<u64>,
+    pub weights: Vec<u16>,
     pub inverse: Vec<Option<u8>>,
 }
 
@@ -27,12 +28,13 @@ pub fn states(set: u64) -> impl Iterator<Item = usize> {
 }
 
 impl Device {
-    /// A device with no outcomes.
+    /// A device with no outcomes and weights of 1.
     pub fn empty(n: usize, m: usize) -> Self {
         Device {
             n,
             m,
             table: vec![0; n * m],
+            weights: vec![1; m],
             inverse: vec![None; m],
         }
     }
@@ -127,6 +129,11 @@ pub fn move_record(state: u8, command: u8, mask: u64) -> Vec<u8> {
     record(2, &body)
 }
 
+pub fn weights_record(weights: &[u16]) -> Vec<u8> {
+    let body: Vec<u8> = weights.iter().flat_map(|w| w.to_le_bytes()).collect();
+    record(5, &body)
+}
+
 pub fn item_record(item: &Item) -> Vec<u8> {
     let mut body = vec![item.forward.len() as u8, item.reverse.len() as u8];
     body.extend(&item.forward);
@@ -136,9 +143,12 @@ pub fn item_record(item: &Item) -> Vec<u8> {
     record(3, &body)
 }
 
-/// The records of a book, in order.
+/// The records of a book, in order; without weights where all are 1.
 pub fn book_records(device: &Device, items: &[Item]) -> Vec<Vec<u8>> {
     let mut records = vec![record(1, &[device.n as u8, device.m as u8])];
+    if device.weights.iter().any(|&weight| weight != 1) {
+        records.push(weights_record(&device.weights));
+    }
     for (entry, &mask) in device.table.iter().enumerate() {
         if mask != 0 {
             records.push(move_record(

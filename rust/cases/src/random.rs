@@ -5,7 +5,7 @@
 use crate::books::permutations;
 use crate::device::{
     all, book_records, item_record, move_record, record, ridge_device, run_bytes, slot_bytes,
-    states, Device, Item,
+    states, weights_record, Device, Item,
 };
 use crate::rng::Rng;
 
@@ -21,6 +21,7 @@ pub struct Input {
     /// those stated, or longer, or one of them too short.
     pub table: Vec<u64>,
     pub slots: Vec<u8>,
+    pub weights: Vec<u16>,
     pub plan: Vec<u8>,
     pub legs: Vec<u8>,
     /// The legs where they are structs: item, upper, lower.
@@ -34,6 +35,7 @@ pub struct Input {
     pub items: u64,
     pub write_table: Vec<u64>,
     pub write_slots: Vec<u8>,
+    pub write_weights: Vec<u16>,
     pub out: Vec<u8>,
 
     /// For the lookups: a state and a command.
@@ -45,7 +47,7 @@ pub struct Input {
 pub fn input(seed: u64) -> Input {
     let rng = &mut Rng::new(seed);
     let largest = rng.below(150) == 0;
-    let device = if largest {
+    let mut device = if largest {
         permutations(rng, 64, 32)
     } else {
         random_device(rng)
@@ -74,6 +76,10 @@ pub fn input(seed: u64) -> Input {
         insert(rng, &mut items, item);
     }
     spoil_story(rng, &device, &mut story);
+    device.weights = random_weights(rng, device.m);
+    if rng.chance(60) {
+        outweigh(rng, &story, &items, &mut device.weights);
+    }
 
     let mut records = book_records(&device, &items);
     let mut run = run_bytes(&story.commands, &story.sightings);
@@ -93,6 +99,17 @@ pub fn input(seed: u64) -> Input {
             book = Some(bytes);
         }
         34..=41 => damage_run(rng, &device, &mut run),
+        42..=51 => {
+            damage_weights(rng, &device, &mut records);
+            // Faults before it and after it.
+            if rng.chance(40) {
+                damage_records(rng, &device, &mut records);
+            }
+            book = Some(records.concat());
+            if rng.chance(20) {
+                damage_bytes(rng, book.as_mut().unwrap());
+            }
+        }
         _ => {}
     }
     if rng.below(250) == 0 {
@@ -100,13 +117,14 @@ pub fn input(seed: u64) -> Input {
     }
     let book = book.unwrap_or_else(|| records.concat());
 
-    let short = if rng.chance(8) { rng.within(1, 5) } else { 0 };
+    let short = if rng.chance(8) { rng.within(1, 6) } else { 0 };
     let table = lent_length(rng, 2048, short == 1);
     let slots = lent_length(rng, 2176, short == 2);
     let plan = lent_length(rng, 256, short == 3);
     let legs = lent_length(rng, 96, short == 4);
     let leg_structs = lent_length(rng, 32, short == 4);
     let page = lent_length(rng, 1312, short == 5);
+    let weights = lent_length(rng, 32, short == 6);
 
     let writing = Writing::new(rng, &device, &items);
     let ridge = looked_up(rng, 64, 16);
@@ -119,6 +137,7 @@ pub fn input(seed: u64) -> Input {
         run,
         table: (0..table).map(|_| filler.word()).collect(),
         slots: (0..slots).map(|_| filler.byte()).collect(),
+        weights: (0..weights).map(|_| filler.word() as u16).collect(),
         plan: (0..plan).map(|_| filler.byte()).collect(),
         legs: (0..legs).map(|_| filler.byte()).collect(),
         leg_structs: (0..leg_structs)
@@ -130,6 +149,7 @@ pub fn input(seed: u64) -> Input {
         items: writing.items,
         write_table: writing.table,
         write_slots: writing.slots,
+        write_weights: writing.weights,
         out: writing.out,
         ridge,
         portable,
@@ -202,6 +222,59 @@ fn random_device(rng: &mut Rng) -> Device {
         }
         _ => mixed(rng, n, m),
     }
+}
+
+/// The weights of m commands: all 1, low ones with many equal sums, or any.
+fn random_weights(rng: &mut Rng, m: usize) -> Vec<u16> {
+    let (low, high) = match rng.below(100) {
+        0..=39 => (1, 1),
+        40..=57 => (1, 2),
+        58..=74 => (1, 4),
+        75..=82 => (1, 20),
+        83..=86 => (999, 1000),
+        _ => (1, 1000),
+    };
+    let mut weights: Vec<u16> = (0..m).map(|_| rng.within(low, high) as u16).collect();
+    match rng.below(10) {
+        // One command that is far dearer, or cheaper, than the others.
+        0 => weights[rng.below(m)] = *rng.pick(&[1, 256, 1000]),
+        // All the same.
+        1 if high > 1 => {
+            let same = *rng.pick(&[2, 255, 256, 257, 1000]);
+            weights.fill(same);
+        }
+        _ => {}
+    }
+    weights
+}
+
+/// Of two items that fit at the same place, the one with fewer reverse commands gets the same sum as
+/// the other, or a higher one, if such items are found.
+fn outweigh(rng: &mut Rng, story: &Story, items: &[Item], weights: &mut [u16]) {
+    let fitting = fitting_items(story, items);
+    let count = |item: &Item, c: u8| item.reverse.iter().filter(|&&other| other == c).count();
+    let own = |few: &Item, many: &Item, c| count(few, c).saturating_sub(count(many, c));
+    let mut found = Vec::new();
+    for &few in &fitting {
+        for &many in &fitting {
+            let rivals = many.forward == few.forward && many.reverse.len() > few.reverse.len();
+            let c = few.reverse.iter().find(|&&c| own(few, many, c) > 0);
+            found.extend(c.filter(|_| rivals).map(|&c| (few, many, c)));
+        }
+    }
+    if found.is_empty() {
+        return;
+    }
+    let (few, many, c) = *rng.pick(&found);
+    let others = |item: &Item| -> usize {
+        let others = item.reverse.iter().filter(|&&other| other != c);
+        others.map(|&c| usize::from(weights[usize::from(c)])).sum()
+    };
+    let equal = others(many)
+        .saturating_sub(others(few))
+        .div_ceil(own(few, many, c));
+    let more = if rng.chance(50) { 0 } else { rng.within(1, 3) };
+    weights[usize::from(c)] = (equal + more).clamp(1, 1000) as u16;
 }
 
 /// States in blocks of b. A third of the commands leave only the block known,
@@ -408,7 +481,39 @@ fn random_items(rng: &mut Rng, device: &Device, story: &Story) -> Vec<Item> {
     }
     rng.shuffle(&mut items);
     items.truncate(64);
+    for _ in 0..rng.below(4) {
+        let item = rival(rng, device, story, &items);
+        insert(rng, &mut items, item);
+    }
     items
+}
+
+/// The items that fit somewhere and have reverse commands.
+fn fitting_items<'a>(story: &Story, items: &'a [Item]) -> Vec<&'a Item> {
+    items
+        .iter()
+        .filter(|item| !item.reverse.is_empty())
+        .filter(|item| (1..=story.commands.len()).any(|upper| fits(story, item, upper)))
+        .collect()
+}
+
+/// An item that fits where another does and undoes the same by another number of commands, if one
+/// is found.
+fn rival(rng: &mut Rng, device: &Device, story: &Story, items: &[Item]) -> Option<Item> {
+    let fitting = fitting_items(story, items);
+    if fitting.is_empty() {
+        return None;
+    }
+    let item = *rng.pick(&fitting);
+    (0..40).find_map(|_| {
+        let count = rng.within(1, 4);
+        let reverse = (0..count).map(|_| rng.below(device.m) as u8).collect();
+        Some(Item {
+            reverse,
+            ..item.clone()
+        })
+        .filter(|other| other.reverse.len() != item.reverse.len() && device.undoes(other))
+    })
 }
 
 fn fits(story: &Story, item: &Item, upper: usize) -> bool {
@@ -465,7 +570,19 @@ fn find_reverse(
         .rev()
         .map(|&c| device.inverse[usize::from(c)])
         .collect();
+    let several = |rng: &mut Rng| {
+        (0..tries)
+            .map(|_| {
+                let count = rng.within(2, 4);
+                (0..count).map(|_| rng.below(m) as u8).collect::<Vec<u8>>()
+            })
+            .find(|reverse| good(reverse))
+    };
     let mut found = inverse.filter(|reverse| rng.chance(70) && good(reverse));
+    // Now and then several commands where fewer would do, and not these among others.
+    if found.is_none() && rng.chance(30) {
+        found = several(rng);
+    }
     if found.is_none() && good(&[]) {
         found = Some(Vec::new());
     }
@@ -475,15 +592,7 @@ fn find_reverse(
             .map(|c| vec![((from + c) % m) as u8])
             .find(|reverse| good(reverse));
     }
-    for _ in 0..tries {
-        if found.is_some() {
-            break;
-        }
-        let count = rng.within(2, 4);
-        let reverse: Vec<u8> = (0..count).map(|_| rng.below(m) as u8).collect();
-        found = Some(reverse).filter(|reverse| good(reverse));
-    }
-    let mut reverse = found?;
+    let mut reverse = found.or_else(|| several(rng))?;
     // Often not the shortest one.
     for _ in 0..padding {
         let mut longer = reverse.clone();
@@ -660,7 +769,9 @@ fn damage_records(rng: &mut Rng, device: &Device, records: &mut Vec<Vec<u8>>) {
     match rng.below(16) {
         // 3: another kind.
         0 => {
-            let other = *rng.pick(&[0, 1, 2, 3, 4, 5, 255, 257, 258, 259, 513, 0x0300, 0xffff]);
+            let other = *rng.pick(&[
+                0, 1, 2, 3, 4, 5, 6, 255, 257, 258, 259, 261, 513, 0x0300, 0x0500, 0xffff,
+            ]);
             set_kind(&mut records[at], other);
         }
         // 3: out of order.
@@ -671,10 +782,11 @@ fn damage_records(rng: &mut Rng, device: &Device, records: &mut Vec<Vec<u8>>) {
         }
         2 => {
             let state = rng.below(device.n) as u8;
-            let extra = match rng.below(4) {
+            let extra = match rng.below(5) {
                 0 => record(1, &[device.n as u8, device.m as u8]),
                 1 => record(4, &[0; 9]),
                 2 => run_bytes(&[], &[all(device.n)]),
+                3 => weights_record(&device.weights),
                 _ => move_record(state, 0, 1),
             };
             records.push(extra);
@@ -704,7 +816,7 @@ fn damage_records(rng: &mut Rng, device: &Device, records: &mut Vec<Vec<u8>>) {
                 records.insert(at + 1, twice);
             }
             _ => {
-                let at = records.len().min(1 + moves.len());
+                let at = items.first().map_or(records.len(), |&first| first);
                 records.insert(at, move_record(0, 0, 1));
                 records.insert(at, move_record(0, 0, 1));
             }
@@ -740,8 +852,74 @@ fn damage_records(rng: &mut Rng, device: &Device, records: &mut Vec<Vec<u8>>) {
                 set_length(&mut records[at], length);
             }
             if rng.chance(40) {
-                set_kind(&mut records[at], rng.pick(&[1, 2, 3, 9]).to_owned());
+                set_kind(&mut records[at], rng.pick(&[1, 2, 3, 5, 9]).to_owned());
             }
+        }
+    }
+}
+
+/// A weights record after the device, in the place of the one that may be there, and something
+/// wrong with it; now and then it only looks wrong.
+fn damage_weights(rng: &mut Rng, device: &Device, records: &mut Vec<Vec<u8>>) {
+    let m = device.m;
+    if records.len() > 1 && kind(&records[1]) == 5 {
+        records.remove(1);
+    }
+    let any = |rng: &mut Rng| random_weights(rng, m);
+    let wrong = |rng: &mut Rng| *rng.pick(&[0, 1001, 1002, 1024, 0x0a01, 0x8001, 0xe803, 0xffff]);
+    match rng.below(17) {
+        // 13.
+        0..=4 => records.insert(1, weights_record(&vec![1; m])),
+        // 5, where it is 13 but for that weight, or not.
+        5..=7 => {
+            let mut weights = if rng.chance(50) { vec![1; m] } else { any(rng) };
+            weights[rng.below(m)] = wrong(rng);
+            records.insert(1, weights_record(&weights));
+        }
+        // High byte first: 256 for 1, 512 for 2, 59,395 for 1,000.
+        8..=9 => {
+            let weights: Vec<u16> = any(rng).iter().map(|w| w.swap_bytes()).collect();
+            records.insert(1, weights_record(&weights));
+        }
+        // 4: a body of another length, of ones, of other weights, of wrong ones.
+        10..=11 => {
+            let length = *rng.pick(&[0, 1, m, 2 * m - 1, 2 * m - 2, 2 * m + 1, 2 * m + 2, 64]);
+            let mut body = match rng.below(3) {
+                0 => [1, 0].repeat(33),
+                1 => [232, 3].repeat(33),
+                _ => vec![0; 66],
+            };
+            body.truncate(length);
+            records.insert(1, record(5, &body));
+        }
+        // 3: in another place, right or wrong in itself.
+        12..=13 => {
+            let weights = if rng.chance(70) { any(rng) } else { vec![1; m] };
+            let at = match rng.below(4) {
+                0 => 0,
+                1 => records.len(),
+                _ => rng.below(records.len() + 1),
+            };
+            records.insert(at, weights_record(&weights));
+        }
+        // 3: another kind.
+        14 => {
+            records.insert(1, weights_record(&any(rng)));
+            set_kind(&mut records[1], *rng.pick(&[4, 6, 261, 0x0500, 0x0505]));
+        }
+        // 3: a second one.
+        _ => {
+            let mut first = any(rng);
+            if rng.chance(80) {
+                first[rng.below(m)] = 2;
+            }
+            let second = if rng.chance(50) {
+                first.clone()
+            } else {
+                any(rng)
+            };
+            records.insert(1, weights_record(&first));
+            records.insert(2, weights_record(&second));
         }
     }
 }
@@ -795,6 +973,11 @@ fn spoil_field(rng: &mut Rng, device: &Device, record: &mut [u8]) {
             4 => high_bit(rng, &mut record[length - 16..length - 8]),
             _ => high_bit(rng, &mut record[length - 8..]),
         },
+        (5, 6..) => {
+            let weight: u16 = *rng.pick(&[0, 1001, 1024, 0xffff]);
+            let at = 4 + 2 * rng.below((length - 4) / 2);
+            record[at..at + 2].copy_from_slice(&weight.to_le_bytes());
+        }
         _ if length > 4 => record[rng.within(4, length - 1)] = rng.byte(),
         _ => {}
     }
@@ -855,17 +1038,19 @@ struct Writing {
     items: u64,
     table: Vec<u64>,
     slots: Vec<u8>,
+    weights: Vec<u16>,
     out: Vec<u8>,
 }
 
 impl Writing {
     fn new(rng: &mut Rng, device: &Device, items: &[Item]) -> Self {
         let (n, m) = (device.n, device.m);
-        let short = if rng.chance(6) { rng.within(1, 3) } else { 0 };
+        let short = if rng.chance(6) { rng.within(1, 4) } else { 0 };
         let lengths = [
             lent_length(rng, 2048, short == 1),
             lent_length(rng, 2176, short == 2),
-            lent_length(rng, 31_110, short == 3),
+            lent_length(rng, 32, short == 3),
+            lent_length(rng, 31_178, short == 4),
         ];
         let mut filler = Rng::new(rng.word());
 
@@ -875,16 +1060,18 @@ impl Writing {
         };
         let mut table = device.table.clone();
         let mut slots: Vec<u8> = items[..used].iter().flat_map(slot_bytes).collect();
+        let mut weights = device.weights.clone();
         let mut case = Writing {
             n: n as u64,
             m: m as u64,
             items: used as u64,
             table: vec![],
             slots: vec![],
+            weights: vec![],
             out: vec![],
         };
 
-        let mut spoil = |rng: &mut Rng, case: &mut Writing| match rng.below(20) {
+        let mut spoil = |rng: &mut Rng, case: &mut Writing| match rng.below(26) {
             0 => case.n = *rng.pick(&[0, 65, 66, 256, 256 + n as u64, 1 << 32, u64::MAX]),
             1 => case.m = *rng.pick(&[0, 33, 64, 256 + m as u64, 1 << 63, u64::MAX]),
             2..=3 => case.items = *rng.pick(&[65, 66, 128, 256, (1 << 32) + 1, u64::MAX]),
@@ -892,6 +1079,7 @@ impl Writing {
                 let at = rng.below(n * m);
                 table[at] |= 1 << rng.within(n, 63);
             }
+            9..=14 => weights[rng.below(m)] = *rng.pick(&[0, 1001, 1024, 0x8001, 0xffff]),
             _ if used > 0 => {
                 let at = rng.below(used);
                 spoil_slot(rng, n, m, &mut slots[34 * at..34 * at + 34]);
@@ -904,19 +1092,22 @@ impl Writing {
             }
         }
 
-        // What lies past entries and slots is ignored, so anything may be there.
+        // What lies past entries, slots and weights is ignored, so anything may be there.
         let plain = rng.chance(20);
         let noise = |filler: &mut Rng| if plain { 0 } else { filler.word() };
         table.resize_with(lengths[0].max(table.len()), || noise(&mut filler));
         table.truncate(lengths[0]);
         slots.resize_with(lengths[1].max(slots.len()), || noise(&mut filler) as u8);
         slots.truncate(lengths[1]);
+        weights.resize_with(lengths[2].max(weights.len()), || noise(&mut filler) as u16);
+        weights.truncate(lengths[2]);
         case.table = table;
         case.slots = slots;
-        case.out = (0..lengths[2].div_ceil(8))
+        case.weights = weights;
+        case.out = (0..lengths[3].div_ceil(8))
             .flat_map(|_| filler.word().to_le_bytes())
             .collect();
-        case.out.truncate(lengths[2]);
+        case.out.truncate(lengths[3]);
         case
     }
 }

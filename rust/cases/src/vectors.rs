@@ -27,11 +27,12 @@ pub struct AssembleCase {
     pub place: u64,
     pub commands: u64,
     pub legs: u64,
+    pub sum: u64,
     /// The plan's bytes up to its count.
     pub plan: Vec<u8>,
     /// Item, upper and lower of each leg.
     pub leg_list: Vec<[u8; 3]>,
-    pub fewest: [u16; 33],
+    pub fewest: [u32; 33],
 }
 
 /// A book with what reading and checking must answer.
@@ -41,12 +42,14 @@ pub struct BookCase {
     /// What the lent buffers hold before each call.
     pub table: Vec<u64>,
     pub slots: Vec<u8>,
+    pub weights: Vec<u16>,
     /// Code, place, n, m, count.
     pub reading: [u64; 5],
     pub checking: [u64; 5],
-    /// After checking: entries 0 to 39 and slot bytes 0 to 101.
+    /// After checking: entries 0 to 39, slot bytes 0 to 101, weights 0 to 31 as far as they are lent.
     pub table_after: Vec<u64>,
     pub slots_after: Vec<u8>,
+    pub weights_after: Vec<u16>,
 }
 
 /// What is given to writing and what it must answer.
@@ -57,6 +60,7 @@ pub struct WriteCase {
     pub items: u64,
     pub table: Vec<u64>,
     pub slots: Vec<u8>,
+    pub weights: Vec<u16>,
     /// What the output holds before.
     pub out: Vec<u8>,
     pub code: u64,
@@ -74,12 +78,13 @@ pub struct PageCase {
     /// What the lent buffers hold before the call.
     pub table: Vec<u64>,
     pub slots: Vec<u8>,
+    pub weights: Vec<u16>,
     pub plan: Vec<u8>,
     pub legs: Vec<u8>,
     pub page: Vec<u8>,
-    /// Code, place, count of commands, count of legs, length.
-    pub head: [u64; 5],
-    pub fewest: [u16; 33],
+    /// Code, place, count of commands, count of legs, sum, length.
+    pub head: [u64; 6],
+    pub fewest: [u32; 33],
     /// The page's bytes 0 to length + 3 afterwards, as far as it has them.
     pub page_after: Vec<u8>,
 }
@@ -105,7 +110,7 @@ pub fn masks() -> Masks {
 }
 
 /// Each case: two-byte lengths of book and run, the book, the run. Each answer: four lines, namely
-/// code, place and the two counts; the plan; the legs, three numbers each; the 33 numbers.
+/// code, place, the two counts and the sum; the plan; the legs, three numbers each; the 33 numbers.
 pub fn assemble_cases() -> Vec<AssembleCase> {
     let mut bytes = Bytes(data!("case_vectors/data/cases.bin"));
     let mut lines = answers!("case_vectors").lines();
@@ -116,7 +121,7 @@ pub fn assemble_cases() -> Vec<AssembleCase> {
         let head = numbers::<u64>(lines.next());
         let plan = numbers(lines.next());
         let legs = numbers::<u8>(lines.next());
-        let fewest = numbers::<u16>(lines.next());
+        let fewest = numbers::<u32>(lines.next());
         cases.push(AssembleCase {
             book,
             run,
@@ -124,6 +129,7 @@ pub fn assemble_cases() -> Vec<AssembleCase> {
             place: head[1],
             commands: head[2],
             legs: head[3],
+            sum: head[4],
             plan,
             leg_list: legs.chunks(3).map(|leg| leg.try_into().unwrap()).collect(),
             fewest: fewest.try_into().unwrap(),
@@ -134,52 +140,58 @@ pub fn assemble_cases() -> Vec<AssembleCase> {
 }
 
 /// Each case: a byte for the lengths of the lent buffers, a two-byte length, the book. Each answer:
-/// four lines, namely reading; checking; then the table's entries 0 to 39 and the slots' bytes 0 to
-/// 101 after checking.
+/// five lines, namely reading; checking; then the table's entries 0 to 39, the slots' bytes 0 to 101
+/// and the weights 0 to 31 after checking.
 pub fn book_cases() -> Vec<BookCase> {
     let mut bytes = Bytes(data!("book_vectors/data/books.bin"));
     let mut lines = answers!("book_vectors").lines();
     let mut cases = Vec::new();
     while !bytes.0.is_empty() {
-        let (table, slots) = match bytes.number(1) {
-            0 => (2048, 2176),
-            1 => (2047, 2176),
-            2 => (2048, 2175),
-            3 => (2053, 2181),
+        let (table, slots, weights) = match bytes.number(1) {
+            0 => (2048, 2176, 32),
+            1 => (2047, 2176, 32),
+            2 => (2048, 2175, 32),
+            3 => (2053, 2181, 37),
+            4 => (2048, 2176, 31),
             lent => panic!("lent {lent}"),
         };
         let length = bytes.number(2);
         cases.push(BookCase {
             book: bytes.take(length).to_vec(),
-            table: (1..=table).collect(),
-            slots: (0..slots).map(|byte| (byte % 251) as u8).collect(),
+            table: table_before(table),
+            slots: slots_before(slots),
+            weights: weights_before(weights),
             reading: numbers(lines.next()).try_into().unwrap(),
             checking: numbers(lines.next()).try_into().unwrap(),
             table_after: numbers(lines.next()),
             slots_after: numbers(lines.next()),
+            weights_after: numbers(lines.next()),
         });
     }
     assert!(lines.next().is_none());
     cases
 }
 
-/// Each case: n, m, count (8 bytes each), a byte for the lengths of the buffers, the table's first 48
-/// entries, the first 3 slots; all after them is 0. Each answer: two lines, namely code, place and
-/// length; the output's bytes 0 to length + 3.
+/// Each case: n, m, count (8 bytes each), a byte for the lengths of the buffers, the 32 weights, the
+/// table's first 48 entries, the first 3 slots; all after them is 0. Each answer: two lines, namely
+/// code, place and length; the output's bytes 0 to length + 3.
 pub fn write_cases() -> Vec<WriteCase> {
     let mut bytes = Bytes(data!("write_vectors/data/writes.bin"));
     let mut lines = answers!("write_vectors").lines();
     let mut cases = Vec::new();
     while !bytes.0.is_empty() {
         let [n, m, items] = [0; 3].map(|_| bytes.word());
-        let (mut out, mut entries, mut slot_bytes) = (31_110, 2048, 2176);
+        let (mut out, mut entries, mut slot_bytes, mut weight_count) = (31_178, 2048, 2176, 32);
         match bytes.number(1) {
             0 => {}
             1 => out -= 1,
             2 => entries -= 1,
             3 => slot_bytes -= 1,
+            4 => weight_count -= 1,
             lent => panic!("lent {lent}"),
         }
+        let mut weights: Vec<u16> = (0..32).map(|_| bytes.number(2) as u16).collect();
+        weights.truncate(weight_count);
         let mut table: Vec<u64> = (0..48).map(|_| bytes.word()).collect();
         table.resize(entries, 0);
         let mut slots = bytes.take(102).to_vec();
@@ -191,6 +203,7 @@ pub fn write_cases() -> Vec<WriteCase> {
             items,
             table,
             slots,
+            weights,
             out: vec![90; out],
             code: head[0],
             place: head[1],
@@ -203,23 +216,28 @@ pub fn write_cases() -> Vec<WriteCase> {
 }
 
 /// Each case: a byte for the lengths of the lent buffers, two-byte lengths of book and run, the book,
-/// the run. Each answer: code, place, the two counts and the length; the 33 numbers; the page's lines
-/// as they are, one for each leg; the page's bytes length to length + 3.
+/// the run. Each answer: code, place, the two counts, the sum and the length; the 33 numbers; the
+/// page's lines as they are, one for each leg; the page's bytes length to length + 3.
 pub fn page_cases() -> Vec<PageCase> {
     let mut bytes = Bytes(data!("page_vectors/data/pages.bin"));
     let mut lines = answers!("page_vectors").lines();
     let mut cases = Vec::new();
     while !bytes.0.is_empty() {
-        let stated = [1312, 256, 96, 2048, 2176];
-        let [page, plan, legs, table, slots] = match bytes.number(1) {
+        // In the order of the byte that says which one is short; 6 says that all are longer.
+        let stated = [1312, 256, 96, 2048, 2176, 32];
+        let [page, plan, legs, table, slots, weights] = match bytes.number(1) {
             0 => stated,
             6 => stated.map(|length| length + 5),
-            short => std::array::from_fn(|at| stated[at] - usize::from(at + 1 == short)),
+            short @ (1..=5 | 7) => {
+                let short = short.min(6);
+                std::array::from_fn(|at| stated[at] - usize::from(at + 1 == short))
+            }
+            lent => panic!("lent {lent}"),
         };
         let (book, run) = (bytes.number(2), bytes.number(2));
         let (book, run) = (bytes.take(book).to_vec(), bytes.take(run).to_vec());
-        let head: [u64; 5] = numbers(lines.next()).try_into().unwrap();
-        let fewest = numbers::<u16>(lines.next());
+        let head: [u64; 6] = numbers(lines.next()).try_into().unwrap();
+        let fewest = numbers::<u32>(lines.next());
         let mut page_after = Vec::new();
         for _ in 0..head[3] {
             page_after.extend(lines.next().unwrap().bytes());
@@ -229,8 +247,9 @@ pub fn page_cases() -> Vec<PageCase> {
         cases.push(PageCase {
             book,
             run,
-            table: (1..=table as u64).collect(),
-            slots: (0..slots).map(|byte| (byte % 251) as u8).collect(),
+            table: table_before(table),
+            slots: slots_before(slots),
+            weights: weights_before(weights),
             plan: vec![201; plan],
             legs: vec![202; legs],
             page: vec![90; page],
@@ -241,6 +260,20 @@ pub fn page_cases() -> Vec<PageCase> {
     }
     assert!(lines.next().is_none());
     cases
+}
+
+// What lent buffers of so many elements hold before each call.
+
+fn table_before(entries: usize) -> Vec<u64> {
+    (1..=entries as u64).collect()
+}
+
+fn slots_before(bytes: usize) -> Vec<u8> {
+    (0..bytes).map(|byte| (byte % 251) as u8).collect()
+}
+
+fn weights_before(weights: usize) -> Vec<u16> {
+    (40_000..).take(weights).collect()
 }
 
 fn numbers<T: std::str::FromStr<Err = std::num::ParseIntError>>(line: Option<&str>) -> Vec<T> {

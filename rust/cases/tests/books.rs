@@ -1,12 +1,13 @@
 //! The books for measuring and docs/FORMAT.md's items for the portable relay
-//! are what they are said to be, and a seed gives the same input each time.
+//! and the ridge repeater are what they are said to be, and a seed gives the
+//! same input each time.
 
-use rollback_cases::device::{all, book_bytes, ridge_device, Device, Item};
+use rollback_cases::device::{all, book_bytes, ridge_device, run_bytes, Device, Item};
 use rollback_cases::*;
 use rollback_plain::{assemble, check, Assembly, Reading};
 
 fn checked(book: &[u8]) -> Reading {
-    check(book, &mut [0; 2048], &mut [0; 2176])
+    check(book, &mut [0; 2048], &mut [0; 2176], &mut [0; 32])
 }
 
 fn assembled(book: &[u8], run: &[u8]) -> Assembly {
@@ -15,6 +16,7 @@ fn assembled(book: &[u8], run: &[u8]) -> Assembly {
         run,
         &mut [0; 2048],
         &mut [0; 2176],
+        &mut [0; 32],
         &mut [0; 256],
         &mut [0; 96],
     )
@@ -33,7 +35,7 @@ fn good(n: u64, m: u64, items: u64) -> Reading {
 /// The counts of outcomes of a book's moves.
 fn outcome_counts(book: &[u8]) -> Vec<u32> {
     let mut table = [0; 2048];
-    let read = check(book, &mut table, &mut [0; 2176]);
+    let read = check(book, &mut table, &mut [0; 2176], &mut [0; 32]);
     table[..(read.n * read.m) as usize]
         .iter()
         .map(|mask| mask.count_ones())
@@ -43,11 +45,12 @@ fn outcome_counts(book: &[u8]) -> Vec<u32> {
 #[test]
 fn largest() {
     let book = largest_book();
-    assert_eq!(book.len(), 31_110);
+    assert_eq!(book.len(), 31_178);
     assert_eq!(checked(&book), good(64, 32, 64));
     assert!(outcome_counts(&book).iter().all(|&count| count == 1));
     let found = assembled(&book, &largest_run());
     assert_eq!((found.code, found.commands, found.legs), (0, 32, 4));
+    assert!((32 * 969..=32 * 1000).contains(&found.sum), "{found:?}");
 }
 
 #[test]
@@ -60,16 +63,15 @@ fn branching() {
     assert!(counts.iter().filter(|&&count| count >= 2).count() > 1500);
     let found = assembled(&book, &branching_run());
     assert_eq!((found.code, found.commands, found.legs), (0, 32, 4));
+    assert_eq!(found.sum, 32);
 
     // The items are no empty promises: half the starts come back from phi,
     // and one reverse command changed is turned down.
     let (mut table, mut slots) = ([0; 2048], [0; 2176]);
-    check(&book, &mut table, &mut slots);
+    check(&book, &mut table, &mut slots, &mut [0; 32]);
     let device = Device {
-        n: 64,
-        m: 32,
         table: table.to_vec(),
-        inverse: vec![],
+        ..Device::empty(64, 32)
     };
     for slot in slots.chunks(34) {
         let (forward, reverse) = (&slot[2..10], &slot[10..18]);
@@ -103,10 +105,8 @@ fn ridge() {
 #[test]
 fn portable() {
     let device = Device {
-        n: 32,
-        m: 12,
         table: masks().portable.to_vec(),
-        inverse: vec![],
+        ..Device::empty(32, 12)
     };
     let judged = |reverse: &[u8]| {
         let item = Item {
@@ -120,6 +120,33 @@ fn portable() {
     assert_eq!(judged(&[11, 1, 10]), good(32, 12, 1));
     let wrong = judged(&[1]);
     assert_eq!((wrong.code, wrong.place), (8, 5_382));
+}
+
+/// Power 3 was set from power 0: back by one command of weight 10, or by three of weight 3.
+#[test]
+fn weights() {
+    let mut device = ridge_device();
+    let item = |reverse: &[u8]| Item {
+        forward: vec![7],
+        reverse: reverse.to_vec(),
+        phi: u64::MAX,
+        psi: 0x000F_000F_000F_000F,
+    };
+    let items = [item(&[4]), item(&[15, 15, 15])];
+    let run = run_bytes(&[7], &[1, u64::MAX]);
+    let mut answer = |power, step, items: &[Item]| {
+        device.weights[4..8].fill(power);
+        device.weights[14..].fill(step);
+        let found = assembled(&book_bytes(&device, items), &run);
+        assert_eq!(found.code, 0);
+        (found.commands, found.sum)
+    };
+    assert_eq!(answer(1, 1, &items), (1, 1));
+    assert_eq!(answer(10, 3, &items), (3, 9));
+    // Equal sums: the lower item, whatever its number of commands.
+    assert_eq!(answer(9, 3, &items), (1, 9));
+    let [one, three] = items;
+    assert_eq!(answer(9, 3, &[three, one]), (3, 9));
 }
 
 #[test]

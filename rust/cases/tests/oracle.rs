@@ -8,7 +8,7 @@ use rollback_plain::{
 };
 use std::collections::BTreeSet;
 
-const SEEDS: u64 = 12_000;
+const SEEDS: u64 = 16_000;
 
 type Set = BTreeSet<usize>;
 
@@ -24,6 +24,8 @@ struct Item {
 struct Book {
     n: usize,
     m: usize,
+    /// By command.
+    weights: Vec<usize>,
     /// By state, then command.
     outcomes: Vec<Vec<Set>>,
     items: Vec<Item>,
@@ -63,11 +65,13 @@ fn parse(bytes: &[u8]) -> Result<Book, (u64, usize)> {
     let mut book = Book {
         n: 0,
         m: 0,
+        weights: vec![],
         outcomes: vec![],
         items: vec![],
     };
     let mut last: Option<usize> = None;
     let mut at = 0;
+    let mut records = 0;
     loop {
         if at > 0 && at == bytes.len() {
             return Ok(book);
@@ -85,6 +89,7 @@ fn parse(bytes: &[u8]) -> Result<Book, (u64, usize)> {
             1 => at == 0,
             2 => at > 0 && book.items.is_empty(),
             3 => at > 0,
+            5 => records == 1,
             _ => false,
         };
         if !in_order {
@@ -102,6 +107,23 @@ fn parse(bytes: &[u8]) -> Result<Book, (u64, usize)> {
                 return Err((5, at));
             }
             book.outcomes = vec![vec![Set::new(); book.m]; book.n];
+            book.weights = vec![1; book.m];
+        } else if kind == 5 {
+            if length != 2 * book.m {
+                return Err((4, at));
+            }
+            let weights = body.chunks(2).map(|weight| number(weight) as usize);
+            book.weights = weights.collect();
+            if book
+                .weights
+                .iter()
+                .any(|&weight| weight == 0 || weight > 1000)
+            {
+                return Err((5, at));
+            }
+            if book.weights.iter().all(|&weight| weight == 1) {
+                return Err((13, at));
+            }
         } else if kind == 2 {
             if length != 10 {
                 return Err((4, at));
@@ -153,6 +175,7 @@ fn parse(bytes: &[u8]) -> Result<Book, (u64, usize)> {
             });
         }
         at += 4 + length;
+        records += 1;
     }
 }
 
@@ -274,27 +297,33 @@ fn parse_run(bytes: &[u8], book: &Book) -> Option<Run> {
     })
 }
 
-/// Lists every chain from a point and keeps the best: fewest commands, then
-/// the lower list.
+/// A chain. The least is that with the least sum of weights, then the lower
+/// list.
+#[derive(Clone, PartialEq, Eq, PartialOrd, Ord)]
+struct Chain {
+    sum: usize,
+    list: Vec<usize>,
+    commands: usize,
+}
+
+/// Lists every chain from a point.
 fn chains(
     book: &Book,
     run: &Run,
     possible: &[Set],
     point: usize,
     list: &mut Vec<usize>,
-    best: &mut Option<(usize, Vec<usize>)>,
+    found: &mut Vec<Chain>,
     fuel: &mut Fuel,
 ) -> Option<()> {
     fuel.step()?;
     if point == 0 {
-        let commands = list
-            .iter()
-            .map(|&item| book.items[item].reverse.len())
-            .sum();
-        let found = (commands, list.clone());
-        if best.as_ref().is_none_or(|best| found < *best) {
-            *best = Some(found);
-        }
+        let plan = list.iter().flat_map(|&item| &book.items[item].reverse);
+        found.push(Chain {
+            sum: plan.clone().map(|&command| book.weights[command]).sum(),
+            list: list.clone(),
+            commands: plan.count(),
+        });
         return Some(());
     }
     for (number, item) in book.items.iter().enumerate() {
@@ -305,7 +334,7 @@ fn chains(
             && possible[point - k].is_subset(&item.psi)
         {
             list.push(number);
-            chains(book, run, possible, point - k, list, best, fuel)?;
+            chains(book, run, possible, point - k, list, found, fuel)?;
             list.pop();
         }
     }
@@ -314,17 +343,22 @@ fn chains(
 
 /// What assembling finds for a run.
 struct Planned {
-    fewest: [u16; 33],
+    sum: usize,
+    fewest: [u32; 33],
     plan: Vec<u8>,
     legs: Vec<[u8; 3]>,
     page: String,
+    /// Every chain from the run's end.
+    chains: Vec<Chain>,
 }
 
 const NOTHING: Planned = Planned {
-    fewest: [65_535; 33],
+    sum: 0,
+    fewest: [4_294_967_295; 33],
     plan: vec![],
     legs: vec![],
     page: String::new(),
+    chains: vec![],
 };
 
 /// The code, and what is found, if every item is accepted.
@@ -339,18 +373,18 @@ fn planned(book: &Book, run: &[u8], fuel: &mut Fuel) -> Option<(u64, Planned)> {
         return Some((10, NOTHING));
     }
     let mut answer = NOTHING;
-    let mut top = None;
     for point in 0..=i {
-        let mut best = None;
-        chains(book, &run, &possible, point, &mut vec![], &mut best, fuel)?;
-        if let Some((commands, _)) = best {
-            answer.fewest[point] = commands as u16;
+        let mut found = vec![];
+        chains(book, &run, &possible, point, &mut vec![], &mut found, fuel)?;
+        if let Some(least) = found.iter().min() {
+            answer.fewest[point] = least.sum as u32;
         }
-        top = best;
+        answer.chains = found;
     }
-    let Some((_, list)) = top else {
+    let Some(Chain { sum, list, .. }) = answer.chains.iter().min().cloned() else {
         return Some((11, answer));
     };
+    answer.sum = sum;
     let mut upper = i;
     for number in list {
         let item = &book.items[number];
@@ -373,14 +407,16 @@ struct Expected {
     /// Code and place.
     assemble: [u64; 2],
     planned: Planned,
-    /// Where table and slots are read.
-    filled: Option<(Vec<u64>, Vec<u8>)>,
-    /// In which of [`PLACES`] the input is.
+    /// Where table, slots and weights are read.
+    filled: Option<(Vec<u64>, Vec<u8>, Vec<u16>)>,
+    /// In which of [`PLACES`] and [`RECORDS`] the input is.
     places: [bool; PLACES.len()],
+    records: [bool; RECORDS.len()],
 }
 
-/// Items that can never be used: where they stand, and why; and items that just can be used.
-const PLACES: [&str; 10] = [
+/// Items that can never be used: where they stand, and why; items that just can be used; and what
+/// weights decide.
+const PLACES: [&str; 14] = [
     "12 alone",
     "12 before 8",
     "8 before 12",
@@ -391,10 +427,43 @@ const PLACES: [&str; 10] = [
     "12 before 10",
     "12 before 11",
     "a plan by an item with one start that has one end, among other states",
+    "a plan with weights",
+    "a plan that a chain with fewer commands was given up for",
+    "a plan with more commands than a chain of the same sum",
+    "a plan with fewer commands than a chain of the same sum",
 ];
 
-/// `code` and `legs` are those of the run if every item is accepted.
-fn places(book: &Book, judged: &[Judged], code: u64, legs: &[[u8; 3]]) -> [bool; PLACES.len()] {
+/// Weights records that are refused, and why.
+const RECORDS: [&str; 6] = [
+    "13",
+    "13 before a later fault",
+    "5, a weight, the others 1",
+    "4, weights",
+    "3, weights first or later",
+    "3, a second weights record",
+];
+
+/// What is refused, and where.
+fn records(bytes: &[u8], (code, at): (u64, usize)) -> [bool; RECORDS.len()] {
+    let weights = |at: usize| bytes.get(at + 2..at + 4) == Some(&[5, 0]);
+    let here = weights(at);
+    let length = || 4 + number(&bytes[at..at + 2]) as usize;
+    let without = || [&bytes[..at], &bytes[at + length()..]].concat();
+    let in_body = || bytes[at + 4..at + length()].chunks(2);
+    let ones = || in_body().filter(|weight| **weight == [1, 0]).count() + 1 == in_body().len();
+    [
+        code == 13,
+        code == 13 && parse(&without()).is_err(),
+        code == 5 && here && in_body().len() > 1 && ones(),
+        code == 4 && here,
+        code == 3 && here,
+        code == 3 && here && at > 6 && weights(6) && at == 10 + number(&bytes[6..8]) as usize,
+    ]
+}
+
+/// `code` and `planned` are those of the run if every item is accepted.
+fn places(book: &Book, judged: &[Judged], code: u64, planned: &Planned) -> [bool; PLACES.len()] {
+    let Planned { legs, chains, .. } = planned;
     let first = |code| judged.iter().position(|item| item.code == code);
     let (eight, twelve) = (first(8), first(12));
     let before = |a: Option<usize>, b: Option<usize>| a.is_some_and(|a| b.is_some_and(|b| a < b));
@@ -406,6 +475,11 @@ fn places(book: &Book, judged: &[Judged], code: u64, legs: &[[u8; 3]]) -> [bool;
         let item = &book.items[at];
         judged[at].pairs == 1 && item.phi.len() > 1 && item.psi.len() > 1
     };
+    let accepted = eight.is_none() && twelve.is_none();
+    let plan = chains.iter().min().filter(|_| accepted && code == 0);
+    let other = |wanted: fn(&Chain, &Chain) -> bool| {
+        plan.is_some_and(|plan| chains.iter().any(|chain| wanted(plan, chain)))
+    };
     [
         refused.is_some() && eight.is_none(),
         before(twelve, eight),
@@ -416,8 +490,21 @@ fn places(book: &Book, judged: &[Judged], code: u64, legs: &[[u8; 3]]) -> [bool;
         refused.is_some() && code == 9,
         refused.is_some() && code == 10,
         refused.is_some() && code == 11,
-        eight.is_none() && twelve.is_none() && legs.iter().any(just_effective),
+        accepted && legs.iter().any(just_effective),
+        plan.is_some_and(|plan| plan.sum != plan.commands),
+        other(|plan, chain| plan.sum < chain.sum && plan.commands > chain.commands),
+        other(|plan, chain| plan.sum == chain.sum && plan.commands > chain.commands),
+        other(|plan, chain| plan.sum == chain.sum && plan.commands < chain.commands),
     ]
+}
+
+/// What reading is lent: table, slots and weights.
+fn lent(input: &Input) -> (Vec<u64>, Vec<u8>, Vec<u16>) {
+    (
+        input.table.clone(),
+        input.slots.clone(),
+        input.weights.clone(),
+    )
 }
 
 fn expected(input: &Input) -> Option<Expected> {
@@ -429,25 +516,30 @@ fn expected(input: &Input) -> Option<Expected> {
         planned: NOTHING,
         filled: None,
         places: [false; PLACES.len()],
+        records: [false; RECORDS.len()],
     };
-    if input.table.len() < 2048 || input.slots.len() < 2176 {
+    if input.table.len() < 2048 || input.slots.len() < 2176 || input.weights.len() < 32 {
         answer.read[0] = 1;
         answer.check[0] = 1;
         return Some(answer);
     }
-    let lent = input.plan.len() >= 256 && input.legs.len() >= 96;
+    let long_enough = input.plan.len() >= 256 && input.legs.len() >= 96;
     let book = match parse(&input.book) {
         Ok(book) => book,
         Err((code, place)) => {
             answer.read[..2].copy_from_slice(&[code, place as u64]);
             answer.check = answer.read;
-            if lent {
+            answer.records = records(&input.book, (code, place));
+            if long_enough {
                 answer.assemble = [code, place as u64];
             }
             return Some(answer);
         }
     };
-    let (mut table, mut slots) = (input.table.clone(), input.slots.clone());
+    let (mut table, mut slots, mut weights) = lent(input);
+    for (command, &weight) in book.weights.iter().enumerate() {
+        weights[command] = weight as u16;
+    }
     for (state, row) in book.outcomes.iter().enumerate() {
         for (command, outcomes) in row.iter().enumerate() {
             table[state * book.m + command] = outcomes.iter().map(|s| 1 << s).sum();
@@ -456,7 +548,7 @@ fn expected(input: &Input) -> Option<Expected> {
     for (number, item) in book.items.iter().enumerate() {
         slots[34 * number..34 * number + 34].copy_from_slice(&item.slot);
     }
-    answer.filled = Some((table, slots));
+    answer.filled = Some((table, slots, weights));
     answer.read = [0, 0, book.n as u64, book.m as u64, book.items.len() as u64];
     answer.check = answer.read;
     let judged: Option<Vec<Judged>> = (book.items.iter())
@@ -468,11 +560,11 @@ fn expected(input: &Input) -> Option<Expected> {
         let place = book.items[wrong].place as u64;
         answer.check = [judged[wrong].code, place, 0, 0, 0];
     }
-    if !lent {
+    if !long_enough {
         return Some(answer);
     }
     let (code, planned) = planned(&book, &input.run, &mut fuel)?;
-    answer.places = places(&book, &judged, code, &planned.legs);
+    answer.places = places(&book, &judged, code, &planned);
     if wrong.is_some() {
         answer.assemble.copy_from_slice(&answer.check[..2]);
     } else {
@@ -491,8 +583,8 @@ fn over<T: Clone>(before: &[T], start: &[T]) -> Vec<T> {
 
 #[test]
 fn books_and_runs() {
-    let mut codes = [0; 13];
-    let mut met = [0; PLACES.len()];
+    let mut codes = [0; 14];
+    let mut met = [0; PLACES.len() + RECORDS.len()];
     let (mut skipped, mut two_legs, mut short_pages) = (0, 0, 0);
     for seed in 0..SEEDS {
         let input = input(seed);
@@ -500,26 +592,20 @@ fn books_and_runs() {
             skipped += 1;
             continue;
         };
-        let untouched = (input.table.clone(), input.slots.clone());
+        let untouched = lent(&input);
         let filled = expected.filled.as_ref().unwrap_or(&untouched);
 
-        let (mut table, mut slots) = untouched.clone();
-        let found = read(&input.book, &mut table, &mut slots);
+        let mut now = untouched.clone();
+        let found = read(&input.book, &mut now.0, &mut now.1, &mut now.2);
         let found = [found.code, found.place, found.n, found.m, found.items];
         assert_eq!(found, expected.read, "reading, seed {seed}");
-        assert!(
-            (&table, &slots) == (&filled.0, &filled.1),
-            "after reading, seed {seed}"
-        );
+        assert!(now == *filled, "after reading, seed {seed}");
 
-        let (mut table, mut slots) = untouched.clone();
-        let found = check(&input.book, &mut table, &mut slots);
+        let mut now = untouched.clone();
+        let found = check(&input.book, &mut now.0, &mut now.1, &mut now.2);
         let found = [found.code, found.place, found.n, found.m, found.items];
         assert_eq!(found, expected.check, "checking, seed {seed}");
-        assert!(
-            (&table, &slots) == (&filled.0, &filled.1),
-            "after checking, seed {seed}"
-        );
+        assert!(now == *filled, "after checking, seed {seed}");
 
         // Assembling with 1 touches nothing.
         let left = if expected.assemble[0] == 1 {
@@ -527,54 +613,53 @@ fn books_and_runs() {
         } else {
             filled
         };
-        let (mut table, mut slots) = untouched.clone();
+        let mut now = untouched.clone();
         let (mut plan, mut legs) = (input.plan.clone(), input.legs.clone());
         let found = assemble(
             &input.book,
             &input.run,
-            &mut table,
-            &mut slots,
+            &mut now.0,
+            &mut now.1,
+            &mut now.2,
             &mut plan,
             &mut legs,
         );
         let Planned {
+            sum,
             fewest,
             plan: expected_plan,
             legs: leg_list,
             page: expected_page,
+            chains: _,
         } = &expected.planned;
         let head = [found.code, found.place];
         assert_eq!(head, expected.assemble, "assembling, seed {seed}");
         let counts = [found.commands as usize, found.legs as usize];
         let expected_counts = [expected_plan.len(), leg_list.len()];
         assert_eq!(counts, expected_counts, "assembling, seed {seed}");
+        assert_eq!(found.sum, *sum as u64, "assembling, seed {seed}");
         assert_eq!(found.fewest, *fewest, "assembling, seed {seed}");
-        assert!(
-            (&table, &slots) == (&left.0, &left.1),
-            "after assembling, seed {seed}"
-        );
+        assert!(now == *left, "after assembling, seed {seed}");
         let expected_plan = over(&input.plan, expected_plan);
         assert_eq!(plan, expected_plan, "plan, seed {seed}");
         let expected_legs = over(&input.legs, &leg_list.concat());
         assert_eq!(legs, expected_legs, "legs, seed {seed}");
 
-        let (mut table, mut slots) = untouched.clone();
+        let mut now = untouched.clone();
         let mut plan = input.plan.clone();
         let leg = |&[item, upper, lower]: &[u8; 3]| Leg { item, upper, lower };
         let mut legs: Vec<Leg> = input.leg_structs.iter().map(leg).collect();
         let again = assemble_legs(
             &input.book,
             &input.run,
-            &mut table,
-            &mut slots,
+            &mut now.0,
+            &mut now.1,
+            &mut now.2,
             &mut plan,
             &mut legs,
         );
         assert_eq!(again, found, "leg structs, seed {seed}");
-        assert!(
-            (&table, &slots) == (&left.0, &left.1),
-            "leg structs, seed {seed}"
-        );
+        assert!(now == *left, "leg structs, seed {seed}");
         assert_eq!(plan, expected_plan, "leg structs, seed {seed}");
         let bytes: Vec<[u8; 3]> = legs.iter().map(|l| [l.item, l.upper, l.lower]).collect();
         assert_eq!(
@@ -584,14 +669,15 @@ fn books_and_runs() {
         );
 
         // The page answers as assembling does, unless it is short itself.
-        let (mut table, mut slots) = untouched.clone();
+        let mut now = untouched.clone();
         let (mut plan, mut legs) = (input.plan.clone(), input.legs.clone());
         let mut lines = input.page.clone();
         let paged = page(
             &input.book,
             &input.run,
-            &mut table,
-            &mut slots,
+            &mut now.0,
+            &mut now.1,
+            &mut now.2,
             &mut plan,
             &mut legs,
             &mut lines,
@@ -602,12 +688,13 @@ fn books_and_runs() {
                 place: 0,
                 commands: 0,
                 legs: 0,
+                sum: 0,
                 fewest: NOTHING.fewest,
             };
             assert_eq!(paged.assembly, refused, "short page, seed {seed}");
             assert_eq!(paged.length, 0, "short page, seed {seed}");
-            let after = (table, slots, plan, legs, lines);
-            let before = (input.table, input.slots, input.plan, input.legs, input.page);
+            let after = (now, plan, legs, lines);
+            let before = (untouched, input.plan, input.legs, input.page);
             assert!(after == before, "short page, seed {seed}");
             short_pages += 1;
         } else {
@@ -617,10 +704,7 @@ fn books_and_runs() {
                 expected_page.len() as u64,
                 "page, seed {seed}"
             );
-            assert!(
-                (&table, &slots) == (&left.0, &left.1),
-                "after the page, seed {seed}"
-            );
+            assert!(now == *left, "after the page, seed {seed}");
             assert_eq!(plan, expected_plan, "page, seed {seed}");
             assert_eq!(legs, expected_legs, "page, seed {seed}");
             let expected_lines = over(&input.page, expected_page.as_bytes());
@@ -629,13 +713,14 @@ fn books_and_runs() {
 
         codes[found.code as usize] += 1;
         two_legs += usize::from(found.legs >= 2);
-        for (count, is_there) in met.iter_mut().zip(expected.places) {
+        let places = expected.places.into_iter().chain(expected.records);
+        for (count, is_there) in met.iter_mut().zip(places) {
             *count += usize::from(is_there);
         }
     }
     println!("{SEEDS} seeds, {skipped} skipped, codes {codes:?}, {two_legs} with two legs or more");
     println!("{short_pages} short pages");
-    for (place, count) in PLACES.iter().zip(met) {
+    for (place, count) in PLACES.iter().chain(&RECORDS).zip(met) {
         println!("{place}: {count}");
         assert!(count >= 50, "{place}: {count}");
     }
@@ -647,7 +732,10 @@ fn books_and_runs() {
 
 fn expected_writing(input: &Input) -> (u64, u64, Vec<u8>) {
     let refused = |code, place| (code, place as u64, vec![]);
-    if input.write_table.len() < 2048 || input.write_slots.len() < 2176 || input.out.len() < 31_110
+    if input.write_table.len() < 2048
+        || input.write_slots.len() < 2176
+        || input.write_weights.len() < 32
+        || input.out.len() < 31_178
     {
         return refused(1, 0);
     }
@@ -659,6 +747,17 @@ fn expected_writing(input: &Input) -> (u64, u64, Vec<u8>) {
     }
     let (n, m) = (input.n as usize, input.m as usize);
     let mut book = vec![2, 0, 1, 0, n as u8, m as u8];
+    let mut record = vec![2 * m as u8, 0, 5, 0];
+    for command in 0..m {
+        let weight = input.write_weights[command];
+        if weight == 0 || weight > 1000 {
+            return refused(5, command);
+        }
+        record.extend([(weight % 256) as u8, (weight / 256) as u8]);
+    }
+    if record[4..] != [1, 0].repeat(m) {
+        book.extend(record);
+    }
     for state in 0..n {
         for command in 0..m {
             let entry = state * m + command;
@@ -721,6 +820,7 @@ fn writing_and_lookups() {
             input.items,
             &input.write_table,
             &input.write_slots,
+            &input.write_weights,
             &mut out,
         );
         let head = (found.code, found.place, found.length);

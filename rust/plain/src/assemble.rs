@@ -2,10 +2,10 @@
 
 use crate::read::{check_book, used};
 use crate::slot::{self, Slot};
-use crate::{run, Assembly, Fault, Leg, PLAN, POINTS, RUN};
+use crate::{run, Assembly, Fault, Leg, Lent, ITEMS, PLAN, POINTS, RUN};
 
 /// The number of a point from which no chain exists.
-const NONE: u16 = u16::MAX;
+const NONE: u32 = u32::MAX;
 
 /// Assembles the plan; the legs are bytes, three for each.
 pub fn assemble(
@@ -13,11 +13,17 @@ pub fn assemble(
     run: &[u8],
     table: &mut [u64],
     slots: &mut [u8],
+    weights: &mut [u16],
     plan: &mut [u8],
     legs: &mut [u8],
 ) -> Assembly {
-    let lent = plan.len() >= PLAN && legs.len() >= 3 * RUN;
-    assemble_into(book, run, table, slots, plan, lent, as_bytes(legs))
+    let long_enough = plan.len() >= PLAN && legs.len() >= 3 * RUN;
+    let lent = Lent {
+        table,
+        slots,
+        weights,
+    };
+    assemble_into(book, run, lent, plan, long_enough, as_bytes(legs))
 }
 
 /// The same, with legs as structs.
@@ -26,13 +32,17 @@ pub fn assemble_legs(
     run: &[u8],
     table: &mut [u64],
     slots: &mut [u8],
+    weights: &mut [u16],
     plan: &mut [u8],
     legs: &mut [Leg],
 ) -> Assembly {
-    let lent = plan.len() >= PLAN && legs.len() >= RUN;
-    assemble_into(book, run, table, slots, plan, lent, |at, leg| {
-        legs[at] = leg
-    })
+    let long_enough = plan.len() >= PLAN && legs.len() >= RUN;
+    let lent = Lent {
+        table,
+        slots,
+        weights,
+    };
+    assemble_into(book, run, lent, plan, long_enough, |at, leg| legs[at] = leg)
 }
 
 /// Puts legs as bytes.
@@ -42,32 +52,33 @@ pub(crate) fn as_bytes(legs: &mut [u8]) -> impl FnMut(usize, Leg) + '_ {
     }
 }
 
+/// `long_enough` says it of plan and legs, and of the page where there is one.
 pub(crate) fn assemble_into(
     book: &[u8],
     run: &[u8],
-    table: &mut [u64],
-    slots: &mut [u8],
+    lent: Lent,
     plan: &mut [u8],
-    lent: bool,
+    long_enough: bool,
     put: impl FnMut(usize, Leg),
 ) -> Assembly {
     let mut chains = Chains {
         fewest: [NONE; POINTS],
         first: [0; POINTS],
     };
-    let result = prepare(book, run, table, slots, lent, &mut chains);
-    let (fault, commands, legs) = match result {
+    let result = prepare(book, run, lent, long_enough, &mut chains);
+    let (fault, commands, legs, sum) = match result {
         Ok((items, top)) => {
             let (commands, legs) = chains.unwind(items, top, plan, put);
-            (Fault::new(0, 0), commands, legs)
+            (Fault::new(0, 0), commands, legs, chains.fewest[top])
         }
-        Err(fault) => (fault, 0, 0),
+        Err(fault) => (fault, 0, 0, 0),
     };
     Assembly {
         code: fault.code,
         place: fault.place,
         commands: commands as u64,
         legs: legs as u64,
+        sum: sum.into(),
         fewest: chains.fewest,
     }
 }
@@ -77,19 +88,23 @@ pub(crate) fn assemble_into(
 fn prepare<'a>(
     book: &[u8],
     run: &[u8],
-    table: &mut [u64],
-    slots: &'a mut [u8],
-    lent: bool,
+    mut lent: Lent<'a>,
+    long_enough: bool,
     chains: &mut Chains,
 ) -> Result<(&'a [Slot], usize), Fault> {
-    if !lent {
+    if !long_enough {
         return Err(Fault::new(1, 0));
     }
-    let found = check_book(book, table, slots)?;
+    let found = check_book(book, &mut lent)?;
+    let Lent {
+        table,
+        slots,
+        weights,
+    } = lent;
     let items = used(slots, found.items);
     let run = run::parse(run, found.n, found.m).ok_or(Fault::new(9, 0))?;
     let possible = run.possible(table, found.m).ok_or(Fault::new(10, 0))?;
-    chains.find(items, run.commands, &possible);
+    chains.find(items, weights, run.commands, &possible);
     let top = run.commands.len();
     if chains.fewest[top] == NONE {
         return Err(Fault::new(11, 0));
@@ -97,23 +112,29 @@ fn prepare<'a>(
     Ok((items, top))
 }
 
-/// For each point the fewest commands of a chain from it, and that chain's
-/// first item.
+/// For each point the least sum of a chain from it, and that chain's first
+/// item.
 struct Chains {
-    fewest: [u16; POINTS],
+    fewest: [u32; POINTS],
     first: [u8; POINTS],
 }
 
 impl Chains {
-    /// Goes from point 0 upward. Items are tried in order and only a shorter
-    /// chain replaces another, so among equals the lower list stays: chains
-    /// with the same first item share its lower point.
-    fn find(&mut self, items: &[Slot], commands: &[u8], possible: &[u64; POINTS]) {
+    /// Goes from point 0 upward. Items are tried in order and only a lower sum
+    /// replaces another, so among equals the lower list stays: chains with the
+    /// same first item share its lower point.
+    fn find(&mut self, items: &[Slot], weights: &[u16], commands: &[u8], possible: &[u64; POINTS]) {
+        let mut sums = [0; ITEMS];
+        for (sum, slot) in sums.iter_mut().zip(items) {
+            *sum = (slot::reverse(slot).iter())
+                .map(|&command| u32::from(weights[usize::from(command)]))
+                .sum();
+        }
         self.fewest[0] = 0;
         let mut last = 0; // the last 8 commands, the latest in the top byte
         for (j, &command) in (1..).zip(commands) {
             last = last >> 8 | u64::from(command) << 56;
-            for (number, slot) in (0..).zip(items) {
+            for (number, (slot, &sum)) in (0..).zip(items.iter().zip(&sums)) {
                 let k = slot::k(slot);
                 if k > j || last >> (64 - 8 * k) != slot::forward_word(slot) {
                     continue;
@@ -121,11 +142,11 @@ impl Chains {
                 let lower = j - k;
                 let below = self.fewest[lower];
                 if below != NONE
-                    && below + u16::from(slot[1]) < self.fewest[j]
+                    && below + sum < self.fewest[j]
                     && possible[j] & !slot::phi(slot) == 0
                     && possible[lower] & !slot::psi(slot) == 0
                 {
-                    self.fewest[j] = below + u16::from(slot[1]);
+                    self.fewest[j] = below + sum;
                     self.first[j] = number;
                 }
             }

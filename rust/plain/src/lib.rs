@@ -5,6 +5,8 @@
 
 #![forbid(unsafe_code)]
 
+use std::ops::RangeInclusive;
+
 mod accept;
 mod assemble;
 mod lookup;
@@ -30,6 +32,10 @@ pub(crate) const TABLE: usize = 2048;
 pub(crate) const ITEMS: usize = 64;
 /// Bytes of lent slots.
 pub(crate) const SLOTS: usize = ITEMS * slot::SIZE;
+/// Elements of lent weights.
+pub(crate) const WEIGHTS: usize = 32;
+/// What a weight may be.
+pub(crate) const WEIGHT: RangeInclusive<u16> = 1..=1000;
 /// Bytes of a lent plan.
 pub(crate) const PLAN: usize = 256;
 /// Most commands in a run, and legs in a chain.
@@ -37,7 +43,7 @@ pub(crate) const RUN: usize = 32;
 /// Points of a run: one before each command and one after the last.
 pub(crate) const POINTS: usize = RUN + 1;
 /// Bytes of the largest book.
-pub(crate) const BOOK: usize = 31_110;
+pub(crate) const BOOK: usize = 31_178;
 
 /// What reading and checking answer.
 #[derive(Clone, Copy, Debug, PartialEq, Eq)]
@@ -56,7 +62,8 @@ pub struct Assembly {
     pub place: u64,
     pub commands: u64,
     pub legs: u64,
-    pub fewest: [u16; 33],
+    pub sum: u64,
+    pub fewest: [u32; 33],
 }
 
 /// What the page answers: assembling's answer, and how many bytes it has.
@@ -88,6 +95,13 @@ pub struct Leg {
     pub item: u8,
     pub upper: u8,
     pub lower: u8,
+}
+
+/// The buffers that reading fills.
+pub(crate) struct Lent<'a> {
+    pub table: &'a mut [u64],
+    pub slots: &'a mut [u8],
+    pub weights: &'a mut [u16],
 }
 
 /// A refusal.

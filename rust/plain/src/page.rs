@@ -2,7 +2,7 @@
 
 use crate::assemble::{as_bytes, assemble_into};
 use crate::slot::{self, Slot};
-use crate::{Paged, PLAN, RUN};
+use crate::{Lent, Paged, PLAN, RUN};
 
 /// Bytes of a line, its newline included.
 const LINE: usize = 41;
@@ -10,17 +10,24 @@ const LINE: usize = 41;
 const PAGE: usize = RUN * LINE;
 
 /// Assembles the plan and lays it out; the legs are bytes, three for each.
+#[allow(clippy::too_many_arguments)] // the lent buffers
 pub fn page(
     book: &[u8],
     run: &[u8],
     table: &mut [u64],
     slots: &mut [u8],
+    weights: &mut [u16],
     plan: &mut [u8],
     legs: &mut [u8],
     page: &mut [u8],
 ) -> Paged {
-    let lent = plan.len() >= PLAN && legs.len() >= 3 * RUN && page.len() >= PAGE;
-    let assembly = assemble_into(book, run, table, slots, plan, lent, as_bytes(legs));
+    let long_enough = plan.len() >= PLAN && legs.len() >= 3 * RUN && page.len() >= PAGE;
+    let lent = Lent {
+        table,
+        slots: &mut *slots,
+        weights,
+    };
+    let assembly = assemble_into(book, run, lent, plan, long_enough, as_bytes(legs));
     // No legs on a refusal.
     let count = assembly.legs as usize;
     let legs = &legs.as_chunks().0[..count];

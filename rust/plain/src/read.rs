@@ -1,34 +1,47 @@
-//! Reading a book into table and slots, and checking its items.
+//! Reading a book into table, slots and weights, and checking its items.
 
 use crate::accept::judge;
 use crate::sets::all;
 use crate::slot::{self, Slot};
-use crate::{Fault, Reading, ITEMS, SLOTS, TABLE};
+use crate::{Fault, Lent, Reading, ITEMS, SLOTS, TABLE, WEIGHT, WEIGHTS};
 
 const DEVICE: u16 = 1;
 const MOVE: u16 = 2;
 const ITEM: u16 = 3;
+const WEIGHTS_RECORD: u16 = 5;
 
 /// Bytes of a device record and of a move record, headers included.
 const DEVICE_SIZE: usize = 6;
 const MOVE_SIZE: usize = 14;
 
-/// A book that keeps the rules for its bytes: the device record, then
-/// `moves` move records, then `items` item records, and nothing else.
+/// A book that keeps the rules for its bytes: the device record, perhaps a
+/// weights record, then from an offset `moves` move records, then `items` item
+/// records, and nothing else.
 pub(crate) struct Book {
     pub n: usize,
     pub m: usize,
     pub items: usize,
+    moves_at: usize,
     moves: usize,
 }
 
-pub fn read(book: &[u8], table: &mut [u64], slots: &mut [u8]) -> Reading {
-    answer(read_book(book, table, slots))
+pub fn read(book: &[u8], table: &mut [u64], slots: &mut [u8], weights: &mut [u16]) -> Reading {
+    let lent = &mut Lent {
+        table,
+        slots,
+        weights,
+    };
+    answer(read_book(book, lent))
 }
 
 /// "checking a book is reading and 8"; 12 is "judged item by item beside 8"
-pub fn check(book: &[u8], table: &mut [u64], slots: &mut [u8]) -> Reading {
-    answer(check_book(book, table, slots))
+pub fn check(book: &[u8], table: &mut [u64], slots: &mut [u8], weights: &mut [u16]) -> Reading {
+    let lent = &mut Lent {
+        table,
+        slots,
+        weights,
+    };
+    answer(check_book(book, lent))
 }
 
 fn answer(result: Result<Book, Fault>) -> Reading {
@@ -50,21 +63,21 @@ fn answer(result: Result<Book, Fault>) -> Reading {
     }
 }
 
-fn read_book(book: &[u8], table: &mut [u64], slots: &mut [u8]) -> Result<Book, Fault> {
-    if table.len() < TABLE || slots.len() < SLOTS {
+fn read_book(book: &[u8], lent: &mut Lent) -> Result<Book, Fault> {
+    if lent.table.len() < TABLE || lent.slots.len() < SLOTS || lent.weights.len() < WEIGHTS {
         return Err(Fault::new(1, 0));
     }
     // Nothing is written before the whole book is known to be good.
     let found = survey(book)?;
-    fill(book, &found, table, slots);
+    fill(book, &found, lent);
     Ok(found)
 }
 
-pub(crate) fn check_book(book: &[u8], table: &mut [u64], slots: &mut [u8]) -> Result<Book, Fault> {
-    let found = read_book(book, table, slots)?;
-    let mut place = DEVICE_SIZE + MOVE_SIZE * found.moves;
-    for slot in used(slots, found.items) {
-        judge(table, found.m, slot).map_err(|code| Fault::new(code, place))?;
+pub(crate) fn check_book(book: &[u8], lent: &mut Lent) -> Result<Book, Fault> {
+    let found = read_book(book, lent)?;
+    let mut place = found.moves_at + MOVE_SIZE * found.moves;
+    for slot in used(lent.slots, found.items) {
+        judge(lent.table, found.m, slot).map_err(|code| Fault::new(code, place))?;
         place += slot::record_size(slot);
     }
     Ok(found)
@@ -75,7 +88,8 @@ pub(crate) fn used(slots: &[u8], items: usize) -> &[Slot] {
     &slots.as_chunks().0[..items]
 }
 
-/// Judges every record: "2, 3, 7, 4, 5, 6, the first faulty record deciding".
+/// Judges every record: "2, 3, 7, 4, 5, 6, the first faulty record deciding";
+/// 13 is "after 5 for that record".
 fn survey(book: &[u8]) -> Result<Book, Fault> {
     let (kind, body) = record(book, 0)?;
     if kind != DEVICE {
@@ -91,8 +105,9 @@ fn survey(book: &[u8]) -> Result<Book, Fault> {
     let mut found = Book {
         n: n.into(),
         m: m.into(),
-        moves: 0,
         items: 0,
+        moves_at: DEVICE_SIZE,
+        moves: 0,
     };
     let outside = !all(found.n);
     let mut next_entry = 0; // the lowest entry that the next move may have
@@ -101,6 +116,11 @@ fn survey(book: &[u8]) -> Result<Book, Fault> {
         let (kind, body) = record(book, at)?;
         let fault = |code| Fault::new(code, at);
         match kind {
+            // It "may stand straight after the device".
+            WEIGHTS_RECORD if at == DEVICE_SIZE => {
+                weights_body(body, found.m).map_err(fault)?;
+                found.moves_at = at + 4 + body.len();
+            }
             // "No move follows an item."
             MOVE if found.items == 0 => {
                 let &[state, command, a, b, c, d, e, f, g, h] = body else {
@@ -129,6 +149,25 @@ fn survey(book: &[u8]) -> Result<Book, Fault> {
         at += 4 + body.len();
     }
     Ok(found)
+}
+
+/// "m two-byte weights, each 1 to 1,000"
+fn weights_body(body: &[u8], m: usize) -> Result<(), u64> {
+    if body.len() != 2 * m {
+        return Err(4);
+    }
+    let mut all_ones = true;
+    for &weight in body.as_chunks().0 {
+        let weight = u16::from_le_bytes(weight);
+        if !WEIGHT.contains(&weight) {
+            return Err(5);
+        }
+        all_ones &= weight == 1;
+    }
+    if all_ones {
+        return Err(13);
+    }
+    Ok(())
 }
 
 /// "In an item a body under 2 bytes is 4, then k or r out of range is 5, then
@@ -166,9 +205,23 @@ fn record(book: &[u8], at: usize) -> Result<(u16, &[u8]), Fault> {
     Err(Fault::new(2, at))
 }
 
-/// Fills table and slots from a book that `survey` has passed.
-fn fill(book: &[u8], found: &Book, table: &mut [u64], slots: &mut [u8]) {
-    let (moves, mut items) = book[DEVICE_SIZE..].split_at(MOVE_SIZE * found.moves);
+/// Fills table, slots and weights from a book that `survey` has passed.
+fn fill(book: &[u8], found: &Book, lent: &mut Lent) {
+    let Lent {
+        table,
+        slots,
+        weights,
+    } = lent;
+    let (start, rest) = book.split_at(found.moves_at);
+    let (moves, mut items) = rest.split_at(MOVE_SIZE * found.moves);
+
+    // "Without it every weight is 1." Where it is, a header of four bytes and
+    // then the weights.
+    weights[..found.m].fill(1);
+    let record = start[DEVICE_SIZE..].as_chunks().0;
+    for (to, &weight) in weights.iter_mut().zip(record.iter().skip(2)) {
+        *to = u16::from_le_bytes(weight);
+    }
 
     // "Pairs not written have no outcomes (entry 0)."
     table[..found.n * found.m].fill(0);

@@ -1,5 +1,5 @@
 //! The marked twelve cases on the small device Q, items that can never be used,
-//! plans on paper, and facts of the two devices with a constant table.
+//! plans on paper, weights, and facts of the two devices with a constant table.
 
 use super::*;
 
@@ -53,7 +53,11 @@ fn run(commands: &[u8], sightings: &[u64]) -> Vec<u8> {
 }
 
 fn checked(items: &[Item]) -> Reading {
-    check(&book(items), &mut [0; 2048], &mut [0; 2176])
+    checked_of(&book(items))
+}
+
+fn checked_of(book: &[u8]) -> Reading {
+    check(book, &mut [0; 2048], &mut [0; 2176], &mut [0; 32])
 }
 
 /// On Q: code, plan and legs.
@@ -61,15 +65,26 @@ fn assembled(commands: &[u8], sightings: &[u64]) -> (Assembly, Vec<u8>, Vec<[u8;
     assembled_of(&book(&Q), &run(commands, sightings))
 }
 
-/// Code, plan and legs; both forms of the legs must agree, and what lies past
-/// the counts must stay.
+/// Code, plan and legs; both forms of the legs must agree, what lies past the
+/// counts must stay, and the sum must be that of the plan's commands.
 fn assembled_of(book: &[u8], run: &[u8]) -> (Assembly, Vec<u8>, Vec<[u8; 3]>) {
-    let (mut table, mut slots) = ([0; 2048], [0; 2176]);
+    let (mut table, mut slots, mut weights) = ([0; 2048], [0; 2176], [0; 32]);
     let (mut plan, mut legs) = ([77; 256], [78; 96]);
-    let result = assemble(book, run, &mut table, &mut slots, &mut plan, &mut legs);
+    let result = assemble(
+        book,
+        run,
+        &mut table,
+        &mut slots,
+        &mut weights,
+        &mut plan,
+        &mut legs,
+    );
     let (commands, count) = (result.commands as usize, result.legs as usize);
     assert!(plan[commands..].iter().all(|&b| b == 77));
     assert!(legs[3 * count..].iter().all(|&b| b == 78));
+    let sent = plan[..commands].iter();
+    let sum: u64 = sent.map(|&c| u64::from(weights[usize::from(c)])).sum();
+    assert_eq!(result.sum, sum);
 
     let mut structs = [Leg {
         item: 78,
@@ -77,7 +92,15 @@ fn assembled_of(book: &[u8], run: &[u8]) -> (Assembly, Vec<u8>, Vec<[u8; 3]>) {
         lower: 78,
     }; 32];
     let mut again = [77; 256];
-    let second = assemble_legs(book, run, &mut table, &mut slots, &mut again, &mut structs);
+    let second = assemble_legs(
+        book,
+        run,
+        &mut table,
+        &mut slots,
+        &mut weights,
+        &mut again,
+        &mut structs,
+    );
     assert_eq!((result, plan), (second, again));
     for (leg, bytes) in structs.iter().zip(legs.chunks(3)) {
         assert_eq!([leg.item, leg.upper, leg.lower], bytes);
@@ -89,8 +112,11 @@ fn assembled_of(book: &[u8], run: &[u8]) -> (Assembly, Vec<u8>, Vec<[u8; 3]>) {
     (result, plan[..commands].to_vec(), legs)
 }
 
-fn fewest(first: &[u16]) -> [u16; 33] {
-    let mut all = [65535; 33];
+/// No chain from a point.
+const NONE: u32 = 4_294_967_295;
+
+fn fewest(first: &[u32]) -> [u32; 33] {
+    let mut all = [NONE; 33];
     all[..first.len()].copy_from_slice(first);
     all
 }
@@ -176,15 +202,18 @@ fn the_first_wrong_item_decides() {
 }
 
 #[test]
-fn a_wrong_item_leaves_table_and_slots_read() {
+fn a_wrong_item_leaves_the_book_read() {
     for (item, code) in [(STUCK, 8), (NO_TRAJECTORY, 12)] {
-        let book = book(&[Q[0], item, Q[1]]);
-        let (mut table, mut slots) = ([u64::MAX; 2048], [255; 2176]);
-        assert_eq!(read(&book, &mut table, &mut slots).code, 0);
-        let after_reading = (table, slots);
-        let (mut table, mut slots) = ([u64::MAX; 2048], [255; 2176]);
-        assert_eq!(check(&book, &mut table, &mut slots).code, code);
-        assert_eq!((table, slots), after_reading);
+        for weights in [&[][..], &[1, 1000, 2]] {
+            let book = weighted(&book(&[Q[0], item, Q[1]]), weights);
+            let (mut lent, mut expected) = (Lent::new(STATED), Lent::new(STATED));
+            assert_eq!(expected.read(&book).code, 0);
+            let refused = lent.check(&book);
+            // Both items after the first have 24 bytes.
+            let place = book.len() as u64 - 48;
+            assert_eq!((refused.code, refused.place), (code, place));
+            assert_eq!(lent, expected);
+        }
     }
 }
 
@@ -203,7 +232,7 @@ fn a_wrong_item_goes_before_the_run() {
             let items = [Q.to_vec(), vec![item]].concat();
             let (result, ..) = assembled_of(&book(&items), run);
             assert_eq!((result.code, result.place), (code, 225));
-            assert_eq!((result.commands, result.legs), (0, 0));
+            assert_eq!((result.commands, result.legs, result.sum), (0, 0, 0));
             assert_eq!(result.fewest, fewest(&[]));
         }
     }
@@ -213,7 +242,7 @@ fn a_wrong_item_goes_before_the_run() {
 fn q5() {
     let (result, plan, legs) = assembled(&[2, 1], &[7, 7, 7]);
     assert_eq!((result.code, result.place), (0, 0));
-    assert_eq!((result.commands, result.legs), (1, 1));
+    assert_eq!((result.commands, result.legs, result.sum), (1, 1, 1));
     assert_eq!((plan, legs), (vec![0], vec![[2, 2, 0]]));
     assert_eq!(result.fewest, fewest(&[0, 1, 1]));
 }
@@ -250,7 +279,7 @@ fn q9_no_chain() {
 #[test]
 fn q10_no_history() {
     let (result, ..) = assembled(&[2, 2], &[7, 7, 7]);
-    assert_eq!((result.code, result.fewest), (10, [65535; 33]));
+    assert_eq!((result.code, result.fewest), (10, [NONE; 33]));
 }
 
 #[test]
@@ -263,7 +292,7 @@ fn q11_empty_plan() {
 #[test]
 fn q12_zero_sighting() {
     let (result, ..) = assembled(&[], &[0]);
-    assert_eq!((result.code, result.fewest), (10, [65535; 33]));
+    assert_eq!((result.code, result.fewest), (10, [NONE; 33]));
 }
 
 /// What the buffers hold, and what is lent.
@@ -271,20 +300,30 @@ fn q12_zero_sighting() {
 struct Lent {
     table: Vec<u64>,
     slots: Vec<u8>,
+    weights: Vec<u16>,
     plan: Vec<u8>,
     legs: Vec<u8>,
     page: Vec<u8>,
 }
 
 impl Lent {
-    fn new([table, slots, plan, legs, page]: [usize; 5]) -> Lent {
+    fn new([table, slots, weights, plan, legs, page]: [usize; 6]) -> Lent {
         Lent {
             table: vec![75; table],
             slots: vec![76; slots],
+            weights: vec![40_000; weights],
             plan: vec![77; plan],
             legs: vec![78; legs],
             page: vec![79; page],
         }
+    }
+
+    fn read(&mut self, book: &[u8]) -> Reading {
+        read(book, &mut self.table, &mut self.slots, &mut self.weights)
+    }
+
+    fn check(&mut self, book: &[u8]) -> Reading {
+        check(book, &mut self.table, &mut self.slots, &mut self.weights)
     }
 
     fn page(&mut self, book: &[u8], run: &[u8]) -> Paged {
@@ -293,6 +332,7 @@ impl Lent {
             run,
             &mut self.table,
             &mut self.slots,
+            &mut self.weights,
             &mut self.plan,
             &mut self.legs,
             &mut self.page,
@@ -300,12 +340,13 @@ impl Lent {
     }
 
     fn assemble(&mut self, book: &[u8], run: &[u8]) -> Assembly {
-        let (table, slots) = (&mut self.table, &mut self.slots);
-        assemble(book, run, table, slots, &mut self.plan, &mut self.legs)
+        let (table, slots, weights) = (&mut self.table, &mut self.slots, &mut self.weights);
+        let (plan, legs) = (&mut self.plan, &mut self.legs);
+        assemble(book, run, table, slots, weights, plan, legs)
     }
 }
 
-const STATED: [usize; 5] = [2048, 2176, 256, 96, 1312];
+const STATED: [usize; 6] = [2048, 2176, 32, 256, 96, 1312];
 
 /// The code and the page's text. All else must be assembling's, and what lies
 /// past the length must stay.
@@ -396,16 +437,29 @@ fn a_refusal_leaves_the_page() {
 #[test]
 fn a_short_page_is_refused_first() {
     let good = run(&[2, 1], &[7, 7, 7]);
+    let short = Assembly {
+        code: 1,
+        place: 0,
+        commands: 0,
+        legs: 0,
+        sum: 0,
+        fewest: fewest(&[]),
+    };
     for book in [book(&Q), book(&[STUCK]), vec![]] {
-        for which in 0..5 {
-            for short in [0, 1, STATED[which] - 1] {
+        for which in 0..6 {
+            for length in [0, 1, STATED[which] - 1] {
                 let mut lengths = STATED;
-                lengths[which] = short;
+                lengths[which] = length;
                 let mut lent = Lent::new(lengths);
                 let found = lent.page(&book, &good);
-                assert_eq!((found.assembly.code, found.assembly.place), (1, 0));
-                assert_eq!((found.assembly.commands, found.assembly.legs), (0, 0));
-                assert_eq!((found.assembly.fewest, found.length), (fewest(&[]), 0));
+                assert_eq!((found.assembly, found.length), (short, 0));
+                if which < 3 {
+                    assert_eq!(lent.read(&book), refused(1, 0));
+                    assert_eq!(lent.check(&book), refused(1, 0));
+                }
+                if which < 5 {
+                    assert_eq!(lent.assemble(&book, &good), short);
+                }
                 assert_eq!(lent, Lent::new(lengths));
             }
         }
@@ -414,23 +468,305 @@ fn a_short_page_is_refused_first() {
 
 #[test]
 fn q_is_written_as_read() {
-    let book = book(&Q);
-    let (mut table, mut slots) = ([u64::MAX; 2048], [255; 2176]);
-    assert_eq!(read(&book, &mut table, &mut slots).code, 0);
-    assert!(table[9..].iter().all(|&entry| entry == u64::MAX));
-    assert!(slots[170..].iter().all(|&byte| byte == 255));
-    let mut out = vec![9; 31_110];
-    let written = write(3, 3, 5, &table, &slots, &mut out);
-    assert_eq!(
-        written,
-        Writing {
-            code: 0,
-            place: 0,
-            length: 225
-        }
+    let plain = book(&Q);
+    for weights in [&[][..], &[7, 1, 1000]] {
+        let book = weighted(&plain, weights);
+        let mut lent = Lent::new(STATED);
+        assert_eq!(lent.read(&book).code, 0);
+        assert!(lent.table[9..].iter().all(|&entry| entry == 75));
+        assert!(lent.slots[170..].iter().all(|&byte| byte == 76));
+        assert!(lent.weights[3..].iter().all(|&weight| weight == 40_000));
+        assert_eq!(written(&lent, 5), (0, 0, book));
+    }
+}
+
+// Weights
+
+/// A book with a weights record after its device; for no weights, the same.
+fn weighted(book: &[u8], weights: &[u16]) -> Vec<u8> {
+    let record = match weights.len() {
+        0 => vec![],
+        _ => weights_record(weights),
+    };
+    [&book[..6], &record, &book[6..]].concat()
+}
+
+fn weights_record(weights: &[u16]) -> Vec<u8> {
+    let mut bytes = vec![2 * weights.len() as u8, 0, 5, 0];
+    bytes.extend(weights.iter().flat_map(|weight| weight.to_le_bytes()));
+    bytes
+}
+
+/// What writing for three states and three commands answers, and the book.
+/// Output past it must stay.
+fn written(lent: &Lent, items: u64) -> (u64, u64, Vec<u8>) {
+    let mut out = vec![9; 31_178];
+    let found = write(
+        3,
+        3,
+        items,
+        &lent.table,
+        &lent.slots,
+        &lent.weights,
+        &mut out,
     );
-    assert_eq!(out[..225], book);
-    assert!(out[225..].iter().all(|&byte| byte == 9));
+    let rest = out.split_off(found.length as usize);
+    assert!(rest.iter().all(|&byte| byte == 9));
+    (found.code, found.place, out)
+}
+
+/// A switch: command 0 turns it off, 1 on, 2 turns it over. Both items undo
+/// "on": by one command, and by three.
+const OFF: Item = (&[1], &[0], 3, 1);
+const OVER: Item = (&[1], &[2, 2, 2], 3, 1);
+
+fn switch(weights: &[u16], items: &[Item]) -> Vec<u8> {
+    let mut bytes = vec![2, 0, 1, 0, 2, 3];
+    for (at, mask) in (0..).zip([1, 2, 2, 1, 2, 1]) {
+        bytes.extend([10, 0, 2, 0, at / 3, at % 3, mask, 0, 0, 0, 0, 0, 0, 0]);
+    }
+    bytes.extend(items.iter().flat_map(item));
+    weighted(&bytes, weights)
+}
+
+#[test]
+fn the_least_sum_wins_not_the_fewest_commands() {
+    let sent = run(&[1], &[1, 3]);
+    for items in [[OFF, OVER], [OVER, OFF]] {
+        for (weights, sum, plan) in [
+            (&[][..], 1, &[0][..]),
+            (&[8, 1, 3], 8, &[0]),
+            (&[10, 1, 3], 9, &[2, 2, 2]),
+            (&[1000, 1, 333], 999, &[2, 2, 2]),
+        ] {
+            let (found, commands, _) = assembled_of(&switch(weights, &items), &sent);
+            assert_eq!((found.code, commands), (0, plan.to_vec()));
+            assert_eq!((found.commands, found.sum), (plan.len() as u64, sum));
+            assert_eq!(found.fewest, fewest(&[0, sum as u32]));
+        }
+    }
+}
+
+#[test]
+fn equal_sums_go_to_the_lower_list() {
+    let sent = run(&[1], &[1, 3]);
+    let answer = |items: &[Item]| {
+        let (found, plan, legs) = assembled_of(&switch(&[9, 1, 3], items), &sent);
+        assert_eq!((found.sum, found.fewest), (9, fewest(&[0, 9])));
+        (plan, legs)
+    };
+    assert_eq!(answer(&[OFF, OVER]), (vec![0], vec![[0, 1, 0]]));
+    assert_eq!(answer(&[OVER, OFF]), (vec![2, 2, 2], vec![[0, 1, 0]]));
+}
+
+/// A sum in two parts: the lower point's least sum counts, not its fewest commands.
+#[test]
+fn sums_over_two_legs() {
+    let back = (&[0][..], &[1][..], 3, 2);
+    let items = [OFF, OVER, back];
+    let sent = run(&[1, 0, 1], &[1, 3, 3, 3]);
+    let (found, plan, legs) = assembled_of(&switch(&[100, 40, 20], &items), &sent);
+    assert_eq!(plan, [2, 2, 2, 1, 2, 2, 2]);
+    assert_eq!(legs, [[1, 3, 2], [2, 2, 1], [1, 1, 0]]);
+    assert_eq!((found.sum, found.fewest), (160, fewest(&[0, 60, 100, 160])));
+}
+
+/// 32 legs of eight commands, each of weight 1,000.
+#[test]
+fn the_largest_sum() {
+    let mut bytes = vec![2, 0, 1, 0, 1, 1];
+    bytes.extend([10, 0, 2, 0, 0, 0, 1, 0, 0, 0, 0, 0, 0, 0]);
+    bytes.extend(item(&(&[0], &[0; 8], 1, 1)));
+    let sent = run(&[0; 32], &[1; 33]);
+    let (found, ..) = assembled_of(&weighted(&bytes, &[1000]), &sent);
+    assert_eq!((found.code, found.commands, found.legs), (0, 256, 32));
+    assert_eq!(found.sum, 256_000);
+    assert_eq!(found.fewest, std::array::from_fn(|j| 8_000 * j as u32));
+}
+
+#[test]
+fn weights_are_read() {
+    for (weights, read) in [
+        (&[][..], [1, 1, 1]),
+        (&[1, 1, 2], [1, 1, 2]),
+        (&[1000, 1, 999], [1000, 1, 999]),
+        (&[256, 3, 515], [256, 3, 515]),
+    ] {
+        let book = weighted(&book(&Q), weights);
+        let mut expected = Lent::new(STATED);
+        assert_eq!(expected.read(&book).code, 0);
+        assert_eq!(expected.weights[..3], read);
+        let mut lent = Lent::new(STATED);
+        assert_eq!(lent.check(&book).code, 0);
+        assert_eq!(lent, expected);
+        // 9, 10 and 11 leave the book read.
+        for sent in [vec![], run(&[2, 2], &[7, 7, 7]), run(&[1], &[7, 7])] {
+            let mut lent = Lent::new(STATED);
+            assert!((9..=11).contains(&lent.assemble(&book, &sent).code));
+            assert_eq!(lent, expected);
+        }
+    }
+}
+
+/// Reading leaves every buffer as it was.
+fn reading_refused(book: &[u8]) -> (u64, u64) {
+    let (mut lent, sent) = (Lent::new(STATED), run(&[], &[7]));
+    let found = lent.read(book);
+    assert_eq!(lent.check(book), found);
+    assert_eq!((found.n, found.m, found.items), (0, 0, 0));
+    let paged = lent.page(book, &sent).assembly;
+    assert_eq!((paged.code, paged.place), (found.code, found.place));
+    assert_eq!((paged.sum, paged.fewest), (0, fewest(&[])));
+    assert_eq!(lent, Lent::new(STATED));
+    (found.code, found.place)
+}
+
+#[test]
+fn faults_of_a_weights_record() {
+    let q = book(&Q);
+    let refused = |weights: &[u16]| reading_refused(&weighted(&q, weights));
+    // Its length is judged first, a weight out of range before all ones.
+    for wrong in [&[2][..], &[1, 1], &[0, 1], &[1, 1, 1, 1], &[0; 32]] {
+        assert_eq!(refused(wrong), (4, 6));
+    }
+    for wrong in [
+        [0, 1, 1],
+        [1, 1, 0],
+        [1, 1001, 1],
+        [65_535, 2, 2],
+        [2, 2, 1 << 15],
+    ] {
+        assert_eq!(refused(&wrong), (5, 6));
+    }
+    assert_eq!(refused(&[1, 1, 1]), (13, 6));
+    // An odd length, and no body.
+    let record = |bytes: &[u8]| [&q[..6], bytes, &q[6..]].concat();
+    assert_eq!(
+        reading_refused(&record(&[5, 0, 5, 0, 2, 0, 2, 0, 2])),
+        (4, 6)
+    );
+    assert_eq!(reading_refused(&record(&[0, 0, 5, 0])), (4, 6));
+    // Kinds are 16-bit numbers.
+    assert_eq!(
+        reading_refused(&record(&[6, 0, 5, 1, 2, 0, 2, 0, 2, 0])),
+        (3, 6)
+    );
+    // Cut off.
+    let cut = [&q[..6], &weights_record(&[1, 1, 1])[..9]].concat();
+    assert_eq!(reading_refused(&cut), (2, 6));
+}
+
+#[test]
+fn weights_stand_straight_after_the_device() {
+    let q = book(&Q);
+    let good = weights_record(&[2, 3, 4]);
+    for wrong in [
+        good.clone(),
+        weights_record(&[1, 1, 1]),
+        weights_record(&[0]),
+    ] {
+        // First, after a move, after an item, last.
+        for at in [0, 20, 129, 225] {
+            let book = [&q[..at], &wrong, &q[at..]].concat();
+            assert_eq!(reading_refused(&book), (3, at as u64));
+        }
+        // A second one.
+        let book = [&q[..6], &good, &wrong, &q[6..]].concat();
+        assert_eq!(reading_refused(&book), (3, 16));
+    }
+    // Alone after the device.
+    let book = [&q[..6], &good].concat();
+    assert_eq!(Lent::new(STATED).read(&book).code, 0);
+}
+
+/// A faulty device goes before it; it goes before every later record's fault.
+#[test]
+fn all_ones_in_their_order() {
+    let q = book(&Q);
+    let ones = weights_record(&[1, 1, 1]);
+    let mut device = weighted(&q, &[1, 1, 1]);
+    device[4] = 65;
+    assert_eq!(reading_refused(&device), (5, 0));
+    let mut kind = q[6..].to_vec();
+    kind[2] = 9;
+    let mut length = q[6..].to_vec();
+    length[0] = 9;
+    for rest in [&[1][..], &q[6..19], &kind, &length, &ones] {
+        let book = [&q[..6], &ones, rest].concat();
+        assert_eq!(reading_refused(&book), (13, 6));
+    }
+}
+
+#[test]
+fn places_after_a_weights_record() {
+    let refused = |items: &[Item]| {
+        let found = checked_of(&weighted(&book(items), &[2, 2, 2]));
+        (found.code, found.place)
+    };
+    assert_eq!(refused(&[STUCK]), (8, 114));
+    assert_eq!(refused(&[Q[0], NO_TRAJECTORY, STUCK]), (12, 139));
+}
+
+#[test]
+fn writing_weights() {
+    let q = book(&Q);
+    let mut lent = Lent::new(STATED);
+    assert_eq!(lent.read(&q).code, 0);
+    let wrote = |weights: &[u16]| {
+        let mut lent = lent.clone();
+        lent.weights[..weights.len()].copy_from_slice(weights);
+        written(&lent, 5)
+    };
+    // All 1: without the record. Those past m are ignored.
+    assert_eq!(wrote(&[1, 1, 1]), (0, 0, q.clone()));
+    assert_eq!(wrote(&[1, 1, 1, 2, 0]), (0, 0, q.clone()));
+    for weights in [[1, 1, 2], [1000, 1, 1], [2, 2, 2], [258, 1, 3]] {
+        assert_eq!(wrote(&weights), (0, 0, weighted(&q, &weights)));
+    }
+    for (weights, place) in [
+        ([0, 1, 1], 0),
+        ([1, 1001, 0], 1),
+        ([1, 1, 0], 2),
+        ([1000, 1, 65_535], 2),
+    ] {
+        assert_eq!(wrote(&weights), (5, place, vec![]));
+    }
+}
+
+/// A wrong weight comes after 7 and before entries and slots.
+#[test]
+fn a_wrong_weight_in_its_order() {
+    let mut lent = Lent::new(STATED);
+    assert_eq!(lent.read(&book(&Q)).code, 0);
+    lent.slots[0] = 9;
+    assert_eq!(written(&lent, 5), (5, 0, vec![]));
+    lent.table[1] = 8;
+    assert_eq!(written(&lent, 5), (5, 1, vec![]));
+    lent.weights[2] = 0;
+    assert_eq!(written(&lent, 5), (5, 2, vec![]));
+    assert_eq!(written(&lent, 65), (7, 0, vec![]));
+    let mut out = vec![9; 31_178];
+    let found = write(3, 33, 65, &lent.table, &lent.slots, &lent.weights, &mut out);
+    assert_eq!((found.code, found.place, found.length), (5, 0, 0));
+    lent.weights.truncate(31);
+    assert_eq!(written(&lent, 5), (1, 0, vec![]));
+}
+
+/// 31,178 bytes; the output must hold as many.
+#[test]
+fn the_largest_book() {
+    let (table, weights) = ([u64::MAX; 2048], [1000; 32]);
+    let mut slot = [0; 34];
+    slot[..2].copy_from_slice(&[8, 8]);
+    let slots = [slot; 64].concat();
+    let mut out = vec![9; 31_178];
+    let found = write(64, 32, 64, &table, &slots, &weights, &mut out);
+    assert_eq!((found.code, found.place, found.length), (0, 0, 31_178));
+    assert_eq!(Lent::new(STATED).read(&out).items, 64);
+    out.push(0);
+    assert_eq!(reading_refused(&out), (2, 31_178));
+    let found = write(64, 32, 64, &table, &slots, &weights, &mut out[..31_177]);
+    assert_eq!((found.code, found.place, found.length), (1, 0, 0));
 }
 
 fn found(mask: u64) -> Lookup {

@@ -1,12 +1,20 @@
-//! Writing a book from table and slots.
+//! Writing a book from table, slots and weights.
 
 use crate::read::used;
 use crate::sets::all;
 use crate::slot::{self, Slot};
-use crate::{Fault, Writing, BOOK, ITEMS, SLOTS, TABLE};
+use crate::{Fault, Writing, BOOK, ITEMS, SLOTS, TABLE, WEIGHT, WEIGHTS};
 
-pub fn write(n: u64, m: u64, items: u64, table: &[u64], slots: &[u8], out: &mut [u8]) -> Writing {
-    match write_book(n, m, items, table, slots, out) {
+pub fn write(
+    n: u64,
+    m: u64,
+    items: u64,
+    table: &[u64],
+    slots: &[u8],
+    weights: &[u16],
+    out: &mut [u8],
+) -> Writing {
+    match write_book(n, m, items, table, slots, weights, out) {
         Ok(length) => Writing {
             code: 0,
             place: 0,
@@ -26,9 +34,10 @@ fn write_book(
     items: u64,
     table: &[u64],
     slots: &[u8],
+    weights: &[u16],
     out: &mut [u8],
 ) -> Result<usize, Fault> {
-    if table.len() < TABLE || slots.len() < SLOTS || out.len() < BOOK {
+    if table.len() < TABLE || slots.len() < SLOTS || weights.len() < WEIGHTS || out.len() < BOOK {
         return Err(Fault::new(1, 0));
     }
     if !(1..=64).contains(&n) || !(1..=32).contains(&m) {
@@ -40,6 +49,10 @@ fn write_book(
     let (n, m) = (n as usize, m as usize);
     let table = &table[..n * m];
     let items = used(slots, items as usize);
+    let weights = &weights[..m];
+    if let Some(command) = weights.iter().position(|weight| !WEIGHT.contains(weight)) {
+        return Err(Fault::new(5, command));
+    }
     let outside = !all(n);
     if let Some(entry) = table.iter().position(|mask| mask & outside != 0) {
         return Err(Fault::new(5, entry));
@@ -50,6 +63,13 @@ fn write_book(
 
     let mut book = Cursor { out, at: 0 };
     book.put(&[2, 0, 1, 0, n as u8, m as u8]);
+    // It "leaves the record out where all m are 1".
+    if weights.iter().any(|&weight| weight != 1) {
+        book.put(&[2 * m as u8, 0, 5, 0]);
+        for weight in weights {
+            book.put(&weight.to_le_bytes());
+        }
+    }
     for (state, row) in (0..).zip(table.chunks_exact(m)) {
         for (command, &mask) in (0..).zip(row) {
             if mask != 0 {

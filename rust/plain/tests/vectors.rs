@@ -31,29 +31,42 @@ fn books_are_read_and_checked() {
     let cases = book_cases();
     assert_eq!(cases.len(), 600);
     for (number, case) in cases.iter().enumerate() {
-        let (mut table, mut slots) = (case.table.clone(), case.slots.clone());
-        let found = read(&case.book, &mut table, &mut slots);
+        let before = || (case.table.clone(), case.slots.clone(), case.weights.clone());
+        let (mut table, mut slots, mut weights) = before();
+        let found = read(&case.book, &mut table, &mut slots, &mut weights);
         let found = [found.code, found.place, found.n, found.m, found.items];
         assert_eq!(found, case.reading, "reading, case {number}");
-        let after_reading = (table, slots);
+        let after_reading = (table, slots, weights);
 
-        let (mut table, mut slots) = (case.table.clone(), case.slots.clone());
-        let found = check(&case.book, &mut table, &mut slots);
+        let (mut table, mut slots, mut weights) = before();
+        let found = check(&case.book, &mut table, &mut slots, &mut weights);
         let found = [found.code, found.place, found.n, found.m, found.items];
         assert_eq!(found, case.checking, "checking, case {number}");
         assert_eq!(table[..40], case.table_after, "table, case {number}");
         assert_eq!(slots[..102], case.slots_after, "slots, case {number}");
+        let lent = weights.len().min(32);
+        assert_eq!(
+            weights[..lent],
+            case.weights_after,
+            "weights, case {number}"
+        );
         // Checking leaves what reading leaves.
-        assert_eq!((table, slots), after_reading, "case {number}");
+        assert_eq!((table, slots, weights), after_reading, "case {number}");
 
-        // What is past the book's own entries and slots stays.
+        // What is past the book's own entries, slots and weights stays.
         let [code, _, n, m, items] = case.reading;
-        let (entries, bytes) = if code == 0 {
-            (n * m, 34 * items)
+        let (entries, bytes, elements) = if code == 0 {
+            (n * m, 34 * items, m)
         } else {
-            (0, 0)
+            (0, 0, 0)
         };
         let (entries, bytes) = (entries as usize, bytes as usize);
+        let elements = elements as usize;
+        assert_eq!(
+            after_reading.2[elements..],
+            case.weights[elements..],
+            "case {number}"
+        );
         assert_eq!(
             after_reading.0[entries..],
             case.table[entries..],
@@ -79,6 +92,7 @@ fn books_are_written() {
             case.items,
             &case.table,
             &case.slots,
+            &case.weights,
             &mut out,
         );
         let found = (found.code, found.place, found.length);
@@ -94,17 +108,25 @@ fn plans_are_assembled() {
     let cases = assemble_cases();
     assert_eq!(cases.len(), 900);
     for (number, case) in cases.iter().enumerate() {
-        let (mut table, mut slots) = (vec![7; 2048], vec![8; 2176]);
+        let before = || (vec![7; 2048], vec![8; 2176], vec![9; 32]);
+        let (mut table, mut slots, mut weights) = before();
         let (mut plan, mut legs) = (vec![201; 256], vec![202; 96]);
         let found = assemble(
-            &case.book, &case.run, &mut table, &mut slots, &mut plan, &mut legs,
+            &case.book,
+            &case.run,
+            &mut table,
+            &mut slots,
+            &mut weights,
+            &mut plan,
+            &mut legs,
         );
-        let head = (found.code, found.place, found.commands, found.legs);
+        let head = [found.code, found.place, found.commands, found.legs];
         assert_eq!(
             head,
-            (case.code, case.place, case.commands, case.legs),
+            [case.code, case.place, case.commands, case.legs],
             "case {number}"
         );
+        assert_eq!(found.sum, case.sum, "case {number}");
         assert_eq!(found.fewest, case.fewest, "case {number}");
         assert_eq!(case.plan.len() as u64, case.commands);
         assert_eq!(case.leg_list.len() as u64, case.legs);
@@ -116,32 +138,37 @@ fn plans_are_assembled() {
         expected_legs.resize(96, 202);
         assert_eq!(legs, expected_legs, "case {number}");
 
-        let (mut table_read, mut slots_read) = (vec![7; 2048], vec![8; 2176]);
-        read(&case.book, &mut table_read, &mut slots_read);
-        assert_eq!(
-            (&table, &slots),
-            (&table_read, &slots_read),
-            "case {number}"
+        let (mut table_read, mut slots_read, mut weights_read) = before();
+        read(
+            &case.book,
+            &mut table_read,
+            &mut slots_read,
+            &mut weights_read,
         );
+        let after_reading = (table_read, slots_read, weights_read);
+        assert_eq!((table, slots, weights), after_reading, "case {number}");
+        let sum = (case.plan.iter()).map(|&c| u64::from(after_reading.2[usize::from(c)]));
+        assert_eq!(sum.sum::<u64>(), case.sum, "case {number}");
 
         let mut structs = [Leg {
             item: 202,
             upper: 202,
             lower: 202,
         }; 32];
-        let (mut table, mut slots) = (vec![7; 2048], vec![8; 2176]);
+        let (mut table, mut slots, mut weights) = before();
         let mut plan = vec![201; 256];
         let again = assemble_legs(
             &case.book,
             &case.run,
             &mut table,
             &mut slots,
+            &mut weights,
             &mut plan,
             &mut structs,
         );
         assert_eq!(again, found, "case {number}");
         assert_eq!(plan, expected_plan, "case {number}");
-        assert_eq!((table, slots), (table_read, slots_read), "case {number}");
+        assert_eq!((table, slots, weights), after_reading, "case {number}");
         let bytes: Vec<u8> = structs
             .iter()
             .flat_map(|l| [l.item, l.upper, l.lower])
@@ -156,13 +183,21 @@ fn plans_are_laid_out() {
     assert_eq!(cases.len(), 700);
     for (number, case) in cases.iter().enumerate() {
         let (mut table, mut slots) = (case.table.clone(), case.slots.clone());
+        let mut weights = case.weights.clone();
         let (mut plan, mut legs) = (case.plan.clone(), case.legs.clone());
         let mut paper = case.page.clone();
         let found = page(
-            &case.book, &case.run, &mut table, &mut slots, &mut plan, &mut legs, &mut paper,
+            &case.book,
+            &case.run,
+            &mut table,
+            &mut slots,
+            &mut weights,
+            &mut plan,
+            &mut legs,
+            &mut paper,
         );
         let a = found.assembly;
-        let head = [a.code, a.place, a.commands, a.legs, found.length];
+        let head = [a.code, a.place, a.commands, a.legs, a.sum, found.length];
         assert_eq!(head, case.head, "case {number}");
         assert_eq!(a.fewest, case.fewest, "case {number}");
         let (start, rest) = paper.split_at(case.page_after.len());
@@ -171,6 +206,7 @@ fn plans_are_laid_out() {
 
         // The rest is assembling's, where the page is long enough.
         let (mut table_after, mut slots_after) = (case.table.clone(), case.slots.clone());
+        let mut weights_after = case.weights.clone();
         let (mut plan_after, mut legs_after) = (case.plan.clone(), case.legs.clone());
         if case.page.len() >= 1312 {
             let again = assemble(
@@ -178,14 +214,20 @@ fn plans_are_laid_out() {
                 &case.run,
                 &mut table_after,
                 &mut slots_after,
+                &mut weights_after,
                 &mut plan_after,
                 &mut legs_after,
             );
             assert_eq!(a, again, "case {number}");
         }
-        assert!(
-            (table, slots, plan, legs) == (table_after, slots_after, plan_after, legs_after),
-            "case {number}"
+        let after = (table, slots, weights, plan, legs);
+        let expected = (
+            table_after,
+            slots_after,
+            weights_after,
+            plan_after,
+            legs_after,
         );
+        assert!(after == expected, "case {number}");
     }
 }

@@ -24,11 +24,14 @@ same-length c = search needs
 same-length-2 : tie.Need-same-length-2
 same-length-2 c = search needs
 
+same-length-3 : tie.Need-same-length-3
+same-length-3 c = search needs
+
 returns : tie.Need-returns
-returns c = passed-on (c .before .before .before .before .before .before .read .ensures) (c .if1 .taken)
+returns c = passed-on (c .before .before .before .before .before .before .before .before .read .ensures) (c .if1 .taken)
 
 first-wrong-requires : tie.Need-first-wrong-requires
-first-wrong-requires c κs = asked (c .before .before .before .before .before .before .before .read .ensures) (c .before .if1 .left)
+first-wrong-requires c κs = asked (c .before .before .before .before .before .before .before .before .before .read .ensures) (c .before .if1 .left)
 
 enum-told : tie.Need-enum-told
 enum-told c = search needs
@@ -42,17 +45,8 @@ code-of-requires c κs = search needs
 refused-requires : tie.Need-refused-requires
 refused-requires c κs = search needs
 
-same-length-3 : tie.Need-same-length-3
-same-length-3 c = search needs
-
 same-length-4 : tie.Need-same-length-4
 same-length-4 c = search needs
-
-returns-2 : tie.Need-returns-2
-returns-2 c =
-    let f = c .before .before in
-    let r = f .before .before .before .before .before .before .before .before .read in
-    judged (r .ensures) (f .before .before .if1 .left) _ (f .first-wrong .ensures) _ (sym (ap (λ (j : Judgement). onJudgement j refusal (r .result)) (c .enum-told .given .1)))
 
 same-length-5 : tie.Need-same-length-5
 same-length-5 c = search needs
@@ -60,11 +54,26 @@ same-length-5 c = search needs
 same-length-6 : tie.Need-same-length-6
 same-length-6 c = search needs
 
+returns-2 : tie.Need-returns-2
+returns-2 c =
+    let f = c .before .before in
+    let r = f .before .before .before .before .before .before .before .before .before .before .read in
+    judged (r .ensures) (f .before .before .if1 .left) _ (f .first-wrong .ensures) _ (sym (ap (λ (j : Judgement). onJudgement j refusal (r .result)) (c .enum-told .given .1)))
+
+same-length-7 : tie.Need-same-length-7
+same-length-7 c = search needs
+
+same-length-8 : tie.Need-same-length-8
+same-length-8 c = search needs
+
+same-length-9 : tie.Need-same-length-9
+same-length-9 c = search needs
+
 returns-3 : tie.Need-returns-3
 returns-3 c =
     let told = c .before .before .before .judged .given in
     let f = c .before .before .before .before .before in
-    let r = f .before .before .before .before .before .before .before .before .read in
+    let r = f .before .before .before .before .before .before .before .before .before .before .read in
     judged (r .ensures) (f .before .before .if1 .left) _ (f .first-wrong .ensures) _
     (c .refused .ensures ∙ ap (λ (k : ℕ). refusal k (told .0 .0)) (c .before .code-of .ensures)
     ∙ sym (ap (λ (j : Judgement). onJudgement j refusal (r .result)) (told .1)))
@@ -76,15 +85,18 @@ check-spec =
     read-requires
     same-length
     same-length-2
+    same-length-3
     returns
     first-wrong-requires
     enum-told
     enum-known-judged
     code-of-requires
     refused-requires
-    same-length-3
     same-length-4
-    returns-2
     same-length-5
     same-length-6
+    returns-2
+    same-length-7
+    same-length-8
+    same-length-9
     returns-3)

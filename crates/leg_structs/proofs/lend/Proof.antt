@@ -27,7 +27,7 @@ use sound.WpLaws.{FmC, fmOf, WpFn-mono}
 use denote.RattleType.{owns}
 use denote.Laws.{Is, shows}
 use denote.Plain.{uint-vals, uint-tells}
-use denote.Builtin.{u8, u64, usize, SliceRefOf, ArrayOf}
+use denote.Builtin.{u8, u16, u64, usize, SliceRefOf, ArrayOf}
 use denote.Array.{Array, array-vals, array-tells, array-lawful}
 use denote.Ref.{RefT, now}
 use denote.Signature.{Slot, plain}
@@ -61,16 +61,16 @@ use Rattle.leg_structs.proofs.lend as lend
 use Rattle.leg_structs.proofs.lend.Statement as stated
 use Rattle.leg_structs.proofs.lend.Code as code
 
-abbrev Book : Slot 5
+abbrev Book : Slot 6
 Book = SliceRefOf (0 ∷ []) tt (plain (λ _. u8)) (λ _. tt)
 
-abbrev Ran : Slot 5
+abbrev Ran : Slot 6
 Ran = SliceRefOf (1 ∷ []) tt (plain (λ _. u8)) (λ _. tt)
 
-abbrev Old : Slot 5
+abbrev Old : Slot 6
 Old = ArrayOf (plain (λ _. T.the-row)) (λ _. tt) 32
 
-abbrev Count : Slot 5
+abbrev Count : Slot 6
 Count = plain (λ _. usize)
 
 abbrev stayed : Stays (lend.ended .signature .params) (lend.ended .kept)
@@ -80,7 +80,13 @@ stayed = (
     stay-dropped Ran yes,
     (
       gave-slice (2 ∷ []) tt (plain (λ _. u64)),
-      (gave-slice (3 ∷ []) tt (plain (λ _. u8)), (gave-slice (4 ∷ []) tt (plain (λ _. u8)), (stay-dropped Old yes, (stay-dropped Count yes, tt)))),
+      (
+        gave-slice (3 ∷ []) tt (plain (λ _. u8)),
+        (
+          gave-slice (4 ∷ []) tt (plain (λ _. u16)),
+          (gave-slice (5 ∷ []) tt (plain (λ _. u8)), (stay-dropped Old yes, (stay-dropped Count yes, tt))),
+        ),
+      ),
     ),
   ),
 )
@@ -94,7 +100,7 @@ module _ {M : Type 1} (𝓤 : URA M) (H : Heap 𝓤) (A : Atoms 𝓤) (at-mem : 
   Legs = tripleOf 𝓤 H A legs-fn.signature (legs-fn.spec 𝓤 H A at-mem run)
 
   -- of what the callee ensures, only what says the last values is kept
-  legs-said : (κs : Lfts 6) (a : Args legs-fn.signature κs) (z : Assembly)
+  legs-said : (κs : Lfts 7) (a : Args legs-fn.signature κs) (z : Assembly)
       → ent 𝓤 (ensured 𝓤 H A legs-fn.ended (legs-fn.clauses 𝓤 H A at-mem run) κs a tt z)
       (ex 𝓤 (λ (zs : Lasts legs-fn.ended κs a). sem 𝓤 H A (lasts legs-fn.ended κs a zs)))
   legs-said κs a z = exE 𝓤 _
@@ -103,26 +109,26 @@ module _ {M : Type 1} (𝓤 : URA M) (H : Heap 𝓤) (A : Atoms 𝓤) (at-mem : 
       (exI 𝓤 (λ (ys : Lasts legs-fn.ended κs a). sem 𝓤 H A (lasts legs-fn.ended κs a ys)) zs))
 
 module _ {M : Type 1} (𝓤 : URA M) (H : Heap 𝓤) (A : Atoms 𝓤) (W : Given 𝓤 H A) (at-mem : Memory → SProp 𝓤) (run : Routine → Fun 𝓤)
-    (κ₀ κ₁ κ₂ κ₃ κ₄ : Lft) (q₀ q₁ q₂ q₃ q₄ : Share) (bk rn tb sl pl : RefT (List ℕ)) (old : List Leg) (ov : Val) (room : ℕ) where
+    (κ₀ κ₁ κ₂ κ₃ κ₄ κ₅ : Lft) (q₀ q₁ q₂ q₃ q₄ q₅ : Share) (bk rn tb sl wt pl : RefT (List ℕ)) (old : List Leg) (ov : Val) (room : ℕ) where
   -- the machine value of a slice
   abbrev sv : {D : Type 0} → RefT (List D) → Val
   sv s = sliceVal (s .ptr) (length (s .now))
 
   abbrev Arg : Type 0
-  Arg = RefT (List ℕ) × (RefT (List ℕ) × (RefT (List ℕ) × (RefT (List ℕ) × (RefT (List ℕ) × (List Leg × (ℕ × Unit {0}))))))
+  Arg = RefT (List ℕ) × (RefT (List ℕ) × (RefT (List ℕ) × (RefT (List ℕ) × (RefT (List ℕ) × (RefT (List ℕ) × (List Leg × (ℕ × Unit {0})))))))
 
   abbrev a : Arg
-  a = (bk, (rn, (tb, (sl, (pl, (old, (room, tt)))))))
+  a = (bk, (rn, (tb, (sl, (wt, (pl, (old, (room, tt))))))))
 
-  abbrev Vals7 : Type 0
-  Vals7 = List Val × (List Val × (List Val × (List Val × (List Val × (List Val × (List Val × Unit {0}))))))
+  abbrev Vals8 : Type 0
+  Vals8 = List Val × (List Val × (List Val × (List Val × (List Val × (List Val × (List Val × (List Val × Unit {0})))))))
 
-  abbrev vals : Vals7
-  vals = (sv bk ∷ [], (sv rn ∷ [], (sv tb ∷ [], (sv sl ∷ [], (sv pl ∷ [], (ov ∷ [], (vint w64 room ∷ [], tt)))))))
+  abbrev vals : Vals8
+  vals = (sv bk ∷ [], (sv rn ∷ [], (sv tb ∷ [], (sv sl ∷ [], (sv wt ∷ [], (sv pl ∷ [], (ov ∷ [], (vint w64 room ∷ [], tt))))))))
 
   abbrev Post : Val → SProp 𝓤
   Post = walkOf 𝓤 H A lend.ended stayed (lend.clauses 𝓤 H A at-mem run) .post
-      (((κ₀, (κ₁, (κ₂, (κ₃, (κ₄, tt))))), (q₀, (q₁, (q₂, (q₃, (q₄, tt))))), tt, a, vals), tt)
+      (((κ₀, (κ₁, (κ₂, (κ₃, (κ₄, (κ₅, tt)))))), (q₀, (q₁, (q₂, (q₃, (q₄, (q₅, tt)))))), tt, a, vals), tt)
 
   -- the result, its machine value, and what they are to each other
   abbrev made : Assembly → List Leg → After
@@ -141,17 +147,19 @@ module _ {M : Type 1} (𝓤 : URA M) (H : Heap 𝓤) (A : Atoms 𝓤) (W : Given
   legs-typed : (ls : List Leg) (v : Val) → Is (Array T.the-row 32) ls (v ∷ []) → Holds (hasTy (tyArray T′.mir 32) v) × WT v
   legs-typed ls v is-legs = array-lawful 𝓤 H A W T.the-row (LL.lawful T.the-type T′.the-laws 𝓤 H A W) 32 .typed ls (v ∷ []) is-legs .0
 
-  exits : (z : Assembly) (ls : List Leg) (u v : Val) (t s p : List ℕ) → Is R.the-row z (u ∷ []) → Is (Array T.the-row 32) ls (v ∷ [])
-      → length t ≡ length (now tb) → length s ≡ length (now sl) → length p ≡ length (now pl)
-      → ent 𝓤 (⋆ 𝓤 H A ((‵ (flft κ₀ q₀) ⊛ ‵ (flft κ₁ q₁) ⊛ ‵ (flft κ₂ q₂) ⊛ ‵ (flft κ₃ q₃) ⊛ ‵ (flft κ₄ q₄) ⊛ ‵ ftrue) ∷ ‵ (finally u8 (pl .name) p)
-      ∷ ‵ (finally u8 (sl .name) s) ∷ ‵ (finally u64 (tb .name) t) ∷ [])) (Post (mv u v))
-  exits z ls u v t s p is-z is-legs et es ep =
-      qed W ((‵ (flft κ₀ q₀) ⊛ ‵ (flft κ₁ q₁) ⊛ ‵ (flft κ₂ q₂) ⊛ ‵ (flft κ₃ q₃) ⊛ ‵ (flft κ₄ q₄) ⊛ ‵ ftrue) ∷ ‵ (finally u8 (pl .name) p) ∷ ‵
-      (finally u8 (sl .name) s) ∷ ‵ (finally u64 (tb .name) t) ∷ []) ∵
+  exits : (z : Assembly) (ls : List Leg) (u v : Val) (t s w p : List ℕ) → Is R.the-row z (u ∷ []) → Is (Array T.the-row 32) ls (v ∷ [])
+      → length t ≡ length (now tb) → length s ≡ length (now sl) → length w ≡ length (now wt) → length p ≡ length (now pl)
+      → ent 𝓤 (⋆ 𝓤 H A ((‵ (flft κ₀ q₀) ⊛ ‵ (flft κ₁ q₁) ⊛ ‵ (flft κ₂ q₂) ⊛ ‵ (flft κ₃ q₃) ⊛ ‵ (flft κ₄ q₄) ⊛ ‵ (flft κ₅ q₅) ⊛ ‵ ftrue)
+      ∷ ‵ (finally u8 (pl .name) p)
+      ∷ ‵ (finally u16 (wt .name) w) ∷ ‵ (finally u8 (sl .name) s) ∷ ‵ (finally u64 (tb .name) t) ∷ [])) (Post (mv u v))
+  exits z ls u v t s w p is-z is-legs et es ew ep =
+      qed W ((‵ (flft κ₀ q₀) ⊛ ‵ (flft κ₁ q₁) ⊛ ‵ (flft κ₂ q₂) ⊛ ‵ (flft κ₃ q₃) ⊛ ‵ (flft κ₄ q₄) ⊛ ‵ (flft κ₅ q₅) ⊛ ‵ ftrue) ∷ ‵ (finally u8 (pl .name) p) ∷ ‵
+      (finally u16 (wt .name) w) ∷ ‵ (finally u8 (sl .name) s) ∷ ‵ (finally u64 (tb .name) t) ∷ []) ∵
       suffices ! _ (ends-at 𝓤 H A lend.ended stayed (lend.clauses 𝓤 H A at-mem run) W
-      (((κ₀, (κ₁, (κ₂, (κ₃, (κ₄, tt))))), (q₀, (q₁, (q₂, (q₃, (q₄, tt))))), tt, a, vals), tt) (mv u v) (made z ls)
-      (tt, (tt, (t, (s, (p, (tt, (tt, tt))))))) (tt, (tt, (et, (es, (ep, (tt, (tt, tt)))))))) $
-      nothing ! $ nothing ! $ fjoin ! $ nothing ! $ fjoin ! $ move ! (2 ∷ 0 ∷ []) $ fjoin ! $ move ! (2 ∷ 0 ∷ []) $ fjoin ! $ move !
+      (((κ₀, (κ₁, (κ₂, (κ₃, (κ₄, (κ₅, tt)))))), (q₀, (q₁, (q₂, (q₃, (q₄, (q₅, tt)))))), tt, a, vals), tt) (mv u v) (made z ls)
+      (tt, (tt, (t, (s, (w, (p, (tt, (tt, tt)))))))) (tt, (tt, (et, (es, (ew, (ep, (tt, (tt, tt))))))))) $
+      nothing ! $ nothing ! $ fjoin ! $ nothing ! $ fjoin ! $ move ! (2 ∷ 0 ∷ []) $ fjoin ! $ move ! (2 ∷ 0 ∷ []) $ fjoin ! $ move ! (2 ∷ 0 ∷ [])
+      $ fjoin ! $ move !
       (2 ∷ 0 ∷ []) $ fjoin ! $ nothing ! $ fjoin ! $ nothing ! $ fjoin ! $
       -- [what is had of the parameters; the tokens]
       owned ! F.the-row (Is F.the-row) (LL.makes F.the-type F′.the-plain 𝓤 H A) (made z ls) (mv u v ∷ []) (is-after z ls u v is-z is-legs) $ move !
@@ -161,88 +169,94 @@ module _ {M : Type 1} (𝓤 : URA M) (H : Heap 𝓤) (A : Atoms 𝓤) (W : Given
   abbrev first : ℕ → GName → RefT (List Leg)
   first l γ = record { ptr = (l, 0); name = γ; now = take room old }
 
-  abbrev Six : Type 0
-  Six = RefT (List ℕ) × (RefT (List ℕ) × (RefT (List ℕ) × (RefT (List ℕ) × (RefT (List ℕ) × (RefT (List Leg) × Unit {0})))))
+  abbrev Seven : Type 0
+  Seven = RefT (List ℕ) × (RefT (List ℕ) × (RefT (List ℕ) × (RefT (List ℕ) × (RefT (List ℕ) × (RefT (List ℕ) × (RefT (List Leg) × Unit {0}))))))
 
-  abbrev six : ℕ → GName → Six
-  six l γ = (bk, (rn, (tb, (sl, (pl, (first l γ, tt))))))
+  abbrev seven : ℕ → GName → Seven
+  seven l γ = (bk, (rn, (tb, (sl, (wt, (pl, (first l γ, tt)))))))
 
-  abbrev six-lfts : Lft → Lfts 6
-  six-lfts κ = (κ₀, (κ₁, (κ₂, (κ₃, (κ₄, (κ, tt))))))
+  abbrev seven-lfts : Lft → Lfts 7
+  seven-lfts κ = (κ₀, (κ₁, (κ₂, (κ₃, (κ₄, (κ₅, (κ, tt)))))))
 
   abbrev to : Lft → ℕ → GName → Legs 𝓤 H A at-mem run .Ghost
   to κ l γ = (
     (
-      six-lfts κ,
-      (q₀, (q₁, (q₂, (q₃, (q₄, (fullShare, tt)))))),
+      seven-lfts κ,
+      (q₀, (q₁, (q₂, (q₃, (q₄, (q₅, (fullShare, tt))))))),
       tt,
-      six l γ,
-      (sv bk ∷ [], (sv rn ∷ [], (sv tb ∷ [], (sv sl ∷ [], (sv pl ∷ [], (sliceVal (l, 0) room ∷ [], tt)))))),
+      seven l γ,
+      (sv bk ∷ [], (sv rn ∷ [], (sv tb ∷ [], (sv sl ∷ [], (sv wt ∷ [], (sv pl ∷ [], (sliceVal (l, 0) room ∷ [], tt))))))),
     ),
     tt,
   )
 
   goes-legs : (κ : Lft) (l : ℕ) (γ : GName) → ent 𝓤
-      (⋆ 𝓤 H A ((‵ (flft κ₀ q₀) ⊛ ‵ (flft κ₁ q₁) ⊛ ‵ (flft κ₂ q₂) ⊛ ‵ (flft κ₃ q₃) ⊛ ‵ (flft κ₄ q₄) ⊛ ‵ ftrue) ∷
+      (⋆ 𝓤 H A ((‵ (flft κ₀ q₀) ⊛ ‵ (flft κ₁ q₁) ⊛ ‵ (flft κ₂ q₂) ⊛ ‵ (flft κ₃ q₃) ⊛ ‵ (flft κ₄ q₄) ⊛ ‵ (flft κ₅ q₅) ⊛ ‵ ftrue) ∷
       (‵ (ShrSlice (named 0) κ₀ u8 .own bk (sv bk ∷ [])) ⊛ ‵ (ShrSlice (named 1) κ₁ u8 .own rn (sv rn ∷ [])) ⊛ ‵
       (MutSlice (named 2) κ₂ u64 .own tb (sv tb ∷ [])) ⊛ ‵ (MutSlice (named 3) κ₃ u8 .own sl (sv sl ∷ [])) ⊛ ‵
-      (MutSlice (named 4) κ₄ u8 .own pl (sv pl ∷ []))) ∷ (‵ (First 𝓤 H A W T.the-row 32 room l erased κ old γ) ⊛ ‵ (flft κ fullShare)) ∷ []))
+      (MutSlice (named 4) κ₄ u16 .own wt (sv wt ∷ [])) ⊛ ‵ (MutSlice (named 5) κ₅ u8 .own pl (sv pl ∷ [])))
+      ∷ (‵ (First 𝓤 H A W T.the-row 32 room l erased κ old γ) ⊛ ‵ (flft κ fullShare)) ∷ []))
       (Legs 𝓤 H A at-mem run .pre (to κ l γ))
   goes-legs κ l γ =
-      qed W ((‵ (flft κ₀ q₀) ⊛ ‵ (flft κ₁ q₁) ⊛ ‵ (flft κ₂ q₂) ⊛ ‵ (flft κ₃ q₃) ⊛ ‵ (flft κ₄ q₄) ⊛ ‵ ftrue) ∷
+      qed W ((‵ (flft κ₀ q₀) ⊛ ‵ (flft κ₁ q₁) ⊛ ‵ (flft κ₂ q₂) ⊛ ‵ (flft κ₃ q₃) ⊛ ‵ (flft κ₄ q₄) ⊛ ‵ (flft κ₅ q₅) ⊛ ‵ ftrue) ∷
       (‵ (ShrSlice (named 0) κ₀ u8 .own bk (sv bk ∷ [])) ⊛ ‵ (ShrSlice (named 1) κ₁ u8 .own rn (sv rn ∷ [])) ⊛ ‵
       (MutSlice (named 2) κ₂ u64 .own tb (sv tb ∷ [])) ⊛ ‵ (MutSlice (named 3) κ₃ u8 .own sl (sv sl ∷ [])) ⊛ ‵
-      (MutSlice (named 4) κ₄ u8 .own pl (sv pl ∷ []))) ∷ (‵ (First 𝓤 H A W T.the-row 32 room l erased κ old γ) ⊛ ‵ (flft κ fullShare)) ∷ []) ∵
-      split ! $ move ! (1 ∷ []) $ split ! $ move ! (1 ∷ []) $ split ! $ move ! (1 ∷ []) $ split ! $ move ! (1 ∷ []) $ split ! $
-      -- [the tokens 4; true; 3; 2; 1; 0; what the slices own; the loan]
-      move ! (7 ∷ []) $ split ! $ move ! (1 ∷ 3 ∷ []) $ join ! $
-      -- [the new token; the slice of structs; 4; 3; 2; 1; 0; what the slices own]
-      move ! (2 ∷ 0 ∷ []) $ join ! $ move ! (2 ∷ 0 ∷ []) $ join ! $ move ! (2 ∷ 0 ∷ []) $ join ! $ move ! (2 ∷ 0 ∷ []) $ join ! $ move ! (2 ∷ 0 ∷ []) $ join ! $
+      (MutSlice (named 4) κ₄ u16 .own wt (sv wt ∷ [])) ⊛ ‵ (MutSlice (named 5) κ₅ u8 .own pl (sv pl ∷ [])))
+      ∷ (‵ (First 𝓤 H A W T.the-row 32 room l erased κ old γ) ⊛ ‵ (flft κ fullShare)) ∷ []) ∵
+      split ! $ move ! (1 ∷ []) $ split ! $ move ! (1 ∷ []) $ split ! $ move ! (1 ∷ []) $ split ! $ move ! (1 ∷ []) $ split ! $ move ! (1 ∷ []) $ split ! $
+      -- [the tokens 5; true; 4; 3; 2; 1; 0; what the slices own; the loan]
+      move ! (8 ∷ []) $ split ! $ move ! (1 ∷ 3 ∷ []) $ join ! $
+      -- [the new token; the slice of structs; 5; 4; 3; 2; 1; 0; what the slices own]
+      move ! (2 ∷ 0 ∷ []) $ join ! $ move ! (2 ∷ 0 ∷ []) $ join ! $ move ! (2 ∷ 0 ∷ []) $ join ! $ move ! (2 ∷ 0 ∷ []) $ join ! $ move ! (2 ∷ 0 ∷ [])
+      $ join ! $ move ! (2 ∷ 0 ∷ []) $ join ! $
       -- [the tokens; the slice of structs; what the slices own]
-      move ! (2 ∷ []) $ split ! $ move ! (1 ∷ []) $ split ! $ move ! (1 ∷ []) $ split ! $ move ! (1 ∷ []) $ split ! $
-      -- [slots; plan; table; run; book; the tokens; the slice of structs]
-      nothing ! $ move ! (7 ∷ 0 ∷ []) $ fjoin ! $ move ! (2 ∷ 0 ∷ []) $ fjoin ! $ move ! (1 ∷ 0 ∷ []) $ fjoin ! $ move !
+      move ! (2 ∷ []) $ split ! $ move ! (1 ∷ []) $ split ! $ move ! (1 ∷ []) $ split ! $ move ! (1 ∷ []) $ split ! $ move ! (1 ∷ []) $ split ! $
+      -- [weights; plan; slots; table; run; book; the tokens; the slice of structs]
+      nothing ! $ move ! (8 ∷ 0 ∷ []) $ fjoin ! $ move ! (2 ∷ 0 ∷ []) $ fjoin ! $ move ! (1 ∷ 0 ∷ []) $ fjoin ! $ move ! (1 ∷ 0 ∷ []) $ fjoin ! $ move !
       (1 ∷ 0 ∷ []) $ fjoin ! $ move ! (1 ∷ 0 ∷ []) $ fjoin ! $ move ! (1 ∷ 0 ∷ []) $ fjoin ! $
       move ! (1 ∷ 0 ∷ []) $ join ! $ nothing ! $ move ! (1 ∷ 0 ∷ []) $ done !
 
   cut-tokens : (κ : Lft) → ent 𝓤
-      (⋆ 𝓤 H A ((‵ (flft κ₀ q₀) ⊛ ‵ (flft κ₁ q₁) ⊛ ‵ (flft κ₂ q₂) ⊛ ‵ (flft κ₃ q₃) ⊛ ‵ (flft κ₄ q₄) ⊛ ‵ (flft κ fullShare) ⊛ ‵ ftrue) ∷ []))
-      (⋆ 𝓤 H A (((‵ (flft κ₀ q₀) ⊛ ‵ (flft κ₁ q₁) ⊛ ‵ (flft κ₂ q₂) ⊛ ‵ (flft κ₃ q₃) ⊛ ‵ (flft κ₄ q₄) ⊛ ‵ ftrue) ⊛ ‵ (flft κ fullShare)) ∷ []))
+      (⋆ 𝓤 H A ((‵ (flft κ₀ q₀) ⊛ ‵ (flft κ₁ q₁) ⊛ ‵ (flft κ₂ q₂) ⊛ ‵ (flft κ₃ q₃) ⊛ ‵ (flft κ₄ q₄) ⊛ ‵ (flft κ₅ q₅) ⊛ ‵ (flft κ fullShare) ⊛ ‵ ftrue) ∷ []))
+      (⋆ 𝓤 H A (((‵ (flft κ₀ q₀) ⊛ ‵ (flft κ₁ q₁) ⊛ ‵ (flft κ₂ q₂) ⊛ ‵ (flft κ₃ q₃) ⊛ ‵ (flft κ₄ q₄) ⊛ ‵ (flft κ₅ q₅) ⊛ ‵ ftrue) ⊛ ‵ (flft κ fullShare)) ∷ []))
   cut-tokens κ =
-      qed W ((‵ (flft κ₀ q₀) ⊛ ‵ (flft κ₁ q₁) ⊛ ‵ (flft κ₂ q₂) ⊛ ‵ (flft κ₃ q₃) ⊛ ‵ (flft κ₄ q₄) ⊛ ‵ (flft κ fullShare) ⊛ ‵ ftrue)
-      ∷ []) ∵ split ! $ move ! (1 ∷ []) $ split ! $ move ! (1 ∷ []) $ split ! $ move ! (1 ∷ []) $ split ! $ move ! (1 ∷ []) $ split ! $ move !
+      qed W ((‵ (flft κ₀ q₀) ⊛ ‵ (flft κ₁ q₁) ⊛ ‵ (flft κ₂ q₂) ⊛ ‵ (flft κ₃ q₃) ⊛ ‵ (flft κ₄ q₄) ⊛ ‵ (flft κ₅ q₅) ⊛ ‵ (flft κ fullShare) ⊛ ‵ ftrue)
+      ∷ []) ∵ split ! $ move ! (1 ∷ []) $ split ! $ move ! (1 ∷ []) $ split ! $ move ! (1 ∷ []) $ split ! $ move ! (1 ∷ []) $ split !
+      $ move ! (1 ∷ []) $ split ! $ move !
       (1 ∷ []) $ split ! $
-      -- [the new token; true; 4; 3; 2; 1; 0]
-      move ! (2 ∷ 1 ∷ []) $ join ! $ move ! (2 ∷ 0 ∷ []) $ join ! $ move ! (2 ∷ 0 ∷ []) $ join ! $ move ! (2 ∷ 0 ∷ []) $ join ! $ move !
+      -- [the new token; true; 5; 4; 3; 2; 1; 0]
+      move ! (2 ∷ 1 ∷ []) $ join ! $ move ! (2 ∷ 0 ∷ []) $ join ! $ move ! (2 ∷ 0 ∷ []) $ join ! $ move ! (2 ∷ 0 ∷ []) $ join ! $ move ! (2 ∷ 0 ∷ [])
+      $ join ! $ move !
       (2 ∷ 0 ∷ []) $ join ! $ join ! $ done !
 
   -- the last values that the callee leaves
-  abbrev Last6 : Type 0
-  Last6 = Unit {0} × (Unit {0} × (List ℕ × (List ℕ × (List ℕ × (List Leg × Unit {0})))))
+  abbrev Last7 : Type 0
+  Last7 = Unit {0} × (Unit {0} × (List ℕ × (List ℕ × (List ℕ × (List ℕ × (List Leg × Unit {0}))))))
 
   -- the structs after the call
-  abbrev ends : Last6 → List Leg
-  ends zs = zs .1 .1 .1 .1 .1 .0 ++ after room old
+  abbrev ends : Last7 → List Leg
+  ends zs = zs .1 .1 .1 .1 .1 .1 .0 ++ after room old
 
   module _ (C : Calls 𝓤 H) (Λ : Loops 𝓤 H) (fm : FmC 𝓤 H (W .laws) C) (known : Triple 𝓤 (C #planner·rollback-assemble-legs) (Legs 𝓤 H A at-mem run)) where
     walk : Is (ShrSlice (named 0) κ₀ u8) bk (sv bk ∷ []) → Is (ShrSlice (named 1) κ₁ u8) rn (sv rn ∷ []) → Room u64 (length (now tb)) → Room u8
-        (length (now sl)) → Room u8 (length (now pl))
+        (length (now sl)) → Room u16 (length (now wt)) → Room u8 (length (now pl))
         → Holds (hasTy (tyArray T′.mir 32) ov) × WT ov → length old ≡ 32 → room < 2 ^ 64 → room ≤ 32
-        → ent 𝓤 (onEntry 𝓤 H A lend.signature (κ₀, (κ₁, (κ₂, (κ₃, (κ₄, tt))))) (q₀, (q₁, (q₂, (q₃, (q₄, tt))))) a vals)
-        (WpFn 𝓤 H C Λ code.function (sv bk ∷ sv rn ∷ sv tb ∷ sv sl ∷ sv pl ∷ ov ∷ vint w64 room ∷ []) Post)
-    walk is-bk is-rn room-tb room-sl room-pl old-typed old-long room-fits within =
-        qed W ((‵ (flft κ₀ q₀) ⊛ ‵ (flft κ₁ q₁) ⊛ ‵ (flft κ₂ q₂) ⊛ ‵ (flft κ₃ q₃) ⊛ ‵ (flft κ₄ q₄) ⊛ ‵ ftrue) ∷ ‵
+        → ent 𝓤 (onEntry 𝓤 H A lend.signature (κ₀, (κ₁, (κ₂, (κ₃, (κ₄, (κ₅, tt)))))) (q₀, (q₁, (q₂, (q₃, (q₄, (q₅, tt)))))) a vals)
+        (WpFn 𝓤 H C Λ code.function (sv bk ∷ sv rn ∷ sv tb ∷ sv sl ∷ sv wt ∷ sv pl ∷ ov ∷ vint w64 room ∷ []) Post)
+    walk is-bk is-rn room-tb room-sl room-wt room-pl old-typed old-long room-fits within =
+        qed W ((‵ (flft κ₀ q₀) ⊛ ‵ (flft κ₁ q₁) ⊛ ‵ (flft κ₂ q₂) ⊛ ‵ (flft κ₃ q₃) ⊛ ‵ (flft κ₄ q₄) ⊛ ‵ (flft κ₅ q₅) ⊛ ‵ ftrue) ∷ ‵
         (owns (ShrSlice (named 0) κ₀ u8 ∷ ShrSlice (named 1) κ₁ u8 ∷ MutSlice (named 2) κ₂ u64 ∷ MutSlice (named 3) κ₃ u8 ∷ MutSlice
-        (named 4) κ₄ u8 ∷ Array T.the-row 32 ∷ usize ∷ []) a vals) ∷ []) ∵
+        (named 4) κ₄ u16 ∷ MutSlice (named 5) κ₅ u8 ∷ Array T.the-row 32 ∷ usize ∷ []) a vals) ∷ []) ∵
         move ! (1 ∷ []) $ fsplit ! $ move ! (1 ∷ []) $ fsplit ! $ move ! (1 ∷ []) $ fsplit ! $ move ! (1 ∷ []) $ fsplit ! $ move !
-        (1 ∷ []) $ fsplit ! $ move ! (1 ∷ []) $ fsplit ! $ move ! (1 ∷ []) $ fsplit ! $ drop ! $ drop ! $
-        -- [the old structs; plan; slots; table; run; book; the tokens]
+        (1 ∷ []) $ fsplit ! $ move ! (1 ∷ []) $ fsplit ! $ move ! (1 ∷ []) $ fsplit ! $ move ! (1 ∷ []) $ fsplit ! $ drop ! $ drop ! $
+        -- [the old structs; plan; weights; slots; table; run; book; the tokens]
         move ! (2 ∷ 1 ∷ []) $ join ! $
         move ! (2 ∷ 0 ∷ []) $ join ! $
         move ! (2 ∷ 0 ∷ []) $ join ! $
         move ! (2 ∷ 0 ∷ []) $ join ! $
+        move ! (2 ∷ 0 ∷ []) $ join ! $
         -- [what the slices own; the old structs; the tokens]
-        enter ! C Λ code.function (sv bk ∷ sv rn ∷ sv tb ∷ sv sl ∷ sv pl ∷ ov ∷ vint w64 room ∷ []) _ $
+        enter ! C Λ code.function (sv bk ∷ sv rn ∷ sv tb ∷ sv sl ∷ sv wt ∷ sv pl ∷ ov ∷ vint w64 room ∷ []) _ $
         alloc1 ! (λ l0. alloc1 !
         (λ l1. alloc1 ! (λ l2. alloc1 !
         (λ l3. alloc1 ! (λ l4. alloc1 !
@@ -250,87 +264,98 @@ module _ {M : Type 1} (𝓤 : URA M) (H : Heap 𝓤) (A : Atoms 𝓤) (W : Given
         (λ l7. alloc1 ! (λ l8. alloc1 !
         (λ l9. alloc1 ! (λ l10. alloc1 !
         (λ l11. alloc1 ! (λ l12. alloc1 !
-        (λ l13. alloc1 ! (λ l14. alloc1 ! (λ l15. alloc1 ! (λ l16. alloc1 ! (λ l17. alloc1 ! (λ l18. alloc0 ! $ params1 ! $
-        pass1 ! (init ! 34 refl (shr-slice-lawful 𝓤 H A W (named 0) κ₀ u8 .typed bk (sv bk ∷ []) is-bk .0)) $
-        pass1 ! (init ! 32 refl (shr-slice-lawful 𝓤 H A W (named 1) κ₁ u8 .typed rn (sv rn ∷ []) is-rn .0)) $
-        pass1 ! (init ! 30 refl (tt, (tt, (record { fits = room-tb .0 }, tt)))) $
-        pass1 ! (init ! 28 refl (tt, (tt, (record { fits = room-sl .0 }, tt)))) $
-        pass1 ! (init ! 26 refl (tt, (tt, (record { fits = room-pl .0 }, tt)))) $
-        pass1 ! (init ! 24 refl old-typed) $
-        pass1 ! (init ! 22 refl (tt, record { fits = room-fits })) $
+        (λ l13. alloc1 ! (λ l14. alloc1 ! (λ l15. alloc1 ! (λ l16. alloc1 !
+        (λ l17. alloc1 ! (λ l18. alloc1 ! (λ l19. alloc1 ! (λ l20. alloc1 ! (λ l21. alloc0 ! $ params1 ! $
+        pass1 ! (init ! 40 refl (shr-slice-lawful 𝓤 H A W (named 0) κ₀ u8 .typed bk (sv bk ∷ []) is-bk .0)) $
+        pass1 ! (init ! 38 refl (shr-slice-lawful 𝓤 H A W (named 1) κ₁ u8 .typed rn (sv rn ∷ []) is-rn .0)) $
+        pass1 ! (init ! 36 refl (tt, (tt, (record { fits = room-tb .0 }, tt)))) $
+        pass1 ! (init ! 34 refl (tt, (tt, (record { fits = room-sl .0 }, tt)))) $
+        pass1 ! (init ! 32 refl (tt, (tt, (record { fits = room-wt .0 }, tt)))) $
+        pass1 ! (init ! 30 refl (tt, (tt, (record { fits = room-pl .0 }, tt)))) $
+        pass1 ! (init ! 28 refl old-typed) $
+        pass1 ! (init ! 26 refl (tt, record { fits = room-fits })) $
         pass0 ! $
-        assigns ! (of-opd ! (load ! (from ! (stop !)) (look ! 24 refl))) (from ! (stop !)) (init ! 20 refl old-typed) $
-        assigns ! (addr ! (from ! (fld ! refl (hop ! (look-in ! 30 (sub ! 0 refl (whole !))) (stop !))))) (from ! (stop !)) (init ! 16 refl (tt, tt)) $
+        assigns ! (of-opd ! (load ! (from ! (stop !)) (look ! 28 refl))) (from ! (stop !)) (init ! 24 refl old-typed) $
+        assigns ! (addr ! (from ! (fld ! refl (hop ! (look-in ! 36 (sub ! 0 refl (whole !))) (stop !))))) (from ! (stop !)) (init ! 20 refl (tt, tt)) $
+        assigns ! (agg ! (and-then ! (load ! (from ! (stop !)) (look ! 20 refl))
+        (and-then ! (load ! (from ! (fld ! refl (stop !))) (look-in ! 36 (sub ! 1 refl (whole !)))) (no-more !)))) (from ! (stop !))
+        (init ! 18 refl (tt, (tt, (record { fits = room-tb .0 }, tt)))) $
+        assigns ! (addr ! (from ! (fld ! refl (hop ! (look-in ! 34 (sub ! 0 refl (whole !))) (stop !))))) (from ! (stop !)) (init ! 16 refl (tt, tt)) $
         assigns ! (agg ! (and-then ! (load ! (from ! (stop !)) (look ! 16 refl))
-        (and-then ! (load ! (from ! (fld ! refl (stop !))) (look-in ! 30 (sub ! 1 refl (whole !)))) (no-more !)))) (from ! (stop !))
-        (init ! 14 refl (tt, (tt, (record { fits = room-tb .0 }, tt)))) $
-        assigns ! (addr ! (from ! (fld ! refl (hop ! (look-in ! 28 (sub ! 0 refl (whole !))) (stop !))))) (from ! (stop !)) (init ! 12 refl (tt, tt)) $
+        (and-then ! (load ! (from ! (fld ! refl (stop !))) (look-in ! 34 (sub ! 1 refl (whole !)))) (no-more !)))) (from ! (stop !))
+        (init ! 14 refl (tt, (tt, (record { fits = room-sl .0 }, tt)))) $
+        assigns ! (addr ! (from ! (fld ! refl (hop ! (look-in ! 32 (sub ! 0 refl (whole !))) (stop !))))) (from ! (stop !)) (init ! 12 refl (tt, tt)) $
         assigns ! (agg ! (and-then ! (load ! (from ! (stop !)) (look ! 12 refl))
-        (and-then ! (load ! (from ! (fld ! refl (stop !))) (look-in ! 28 (sub ! 1 refl (whole !)))) (no-more !)))) (from ! (stop !))
-        (init ! 10 refl (tt, (tt, (record { fits = room-sl .0 }, tt)))) $
-        assigns ! (addr ! (from ! (fld ! refl (hop ! (look-in ! 26 (sub ! 0 refl (whole !))) (stop !))))) (from ! (stop !)) (init ! 8 refl (tt, tt)) $
+        (and-then ! (load ! (from ! (fld ! refl (stop !))) (look-in ! 32 (sub ! 1 refl (whole !)))) (no-more !)))) (from ! (stop !))
+        (init ! 10 refl (tt, (tt, (record { fits = room-wt .0 }, tt)))) $
+        assigns ! (addr ! (from ! (fld ! refl (hop ! (look-in ! 30 (sub ! 0 refl (whole !))) (stop !))))) (from ! (stop !)) (init ! 8 refl (tt, tt)) $
         assigns ! (agg ! (and-then ! (load ! (from ! (stop !)) (look ! 8 refl))
-        (and-then ! (load ! (from ! (fld ! refl (stop !))) (look-in ! 26 (sub ! 1 refl (whole !)))) (no-more !)))) (from ! (stop !))
+        (and-then ! (load ! (from ! (fld ! refl (stop !))) (look-in ! 30 (sub ! 1 refl (whole !)))) (no-more !)))) (from ! (stop !))
         (init ! 6 refl (tt, (tt, (record { fits = room-pl .0 }, tt)))) $
         assigns ! (addr ! (from ! (stop !))) (from ! (stop !)) (init ! 4 refl (tt, tt)) $
-        assigns ! (agg ! (and-then ! (load ! (from ! (stop !)) (look ! 4 refl)) (and-then ! (load ! (from ! (stop !)) (look ! 22 refl)) (no-more !))))
+        assigns ! (agg ! (and-then ! (load ! (from ! (stop !)) (look ! 4 refl)) (and-then ! (load ! (from ! (stop !)) (look ! 26 refl)) (no-more !))))
         (from ! (stop !)) (init ! 2 refl (tt, (tt, (record { fits = room-fits }, tt)))) $
         -- the structs are lent, for a lifetime that is made here
-        move ! (20 ∷ 39 ∷ []) $
+        move ! (24 ∷ 45 ∷ []) $
         lft-new ! tt (λ α.
         move ! (1 ∷ 2 ∷ []) $ use2 W
-        (later (some (λ (γ : GName). ‵ (First 𝓤 H A W T.the-row 32 room l8 erased (α ∷ []) old γ) ⊛ Kept 𝓤 H A W T.the-row 32 room l8
-        (α ∷ []) γ old))) (lends-first 𝓤 H A W T.the-row 32 room l8 tt erased (α ∷ []) old ov within room32) $ await ! tt $ pick ! (λ γ. split ! $
+        (later (some (λ (γ : GName). ‵ (First 𝓤 H A W T.the-row 32 room l9 erased (α ∷ []) old γ) ⊛ Kept 𝓤 H A W T.the-row 32 room l9
+        (α ∷ []) γ old))) (lends-first 𝓤 H A W T.the-row 32 room l9 tt erased (α ∷ []) old ov within room32) $ await ! tt $ pick ! (λ γ. split ! $
         move ! (0 ∷ 2 ∷ []) $ join ! $
-        move ! (40 ∷ 39 ∷ 0 ∷ []) $ use3 W (raw (Legs 𝓤 H A at-mem run .pre (to (α ∷ []) l8 γ))) (goes-legs (α ∷ []) l8 γ) $
+        move ! (46 ∷ 45 ∷ 0 ∷ []) $ use3 W (raw (Legs 𝓤 H A at-mem run .pre (to (α ∷ []) l9 γ))) (goes-legs (α ∷ []) l9 γ) $
         -- `rollback_assemble_legs`
-        calls-at ! fm (Legs 𝓤 H A at-mem run) known (to (α ∷ []) l8 γ)
-        (and-then ! (load ! (from ! (stop !)) (look ! 35 refl))
-        (and-then ! (load ! (from ! (stop !)) (look ! 33 refl))
+        calls-at ! fm (Legs 𝓤 H A at-mem run) known (to (α ∷ []) l9 γ)
+        (and-then ! (load ! (from ! (stop !)) (look ! 41 refl))
+        (and-then ! (load ! (from ! (stop !)) (look ! 39 refl))
+        (and-then ! (load ! (from ! (stop !)) (look ! 20 refl))
         (and-then ! (load ! (from ! (stop !)) (look ! 16 refl))
         (and-then ! (load ! (from ! (stop !)) (look ! 12 refl))
-        (and-then ! (load ! (from ! (stop !)) (look ! 8 refl)) (and-then ! (load ! (from ! (stop !)) (look ! 4 refl)) (no-more !))))))) (λ u.
+        (and-then ! (load ! (from ! (stop !)) (look ! 8 refl)) (and-then ! (load ! (from ! (stop !)) (look ! 4 refl)) (no-more !)))))))) (λ u.
         use1 W (later (some (λ (z : Assembly).
-        ((‵ (flft κ₀ q₀) ⊛ ‵ (flft κ₁ q₁) ⊛ ‵ (flft κ₂ q₂) ⊛ ‵ (flft κ₃ q₃) ⊛ ‵ (flft κ₄ q₄) ⊛ ‵ (flft (α ∷ []) fullShare) ⊛ ‵ ftrue) ⊛ ‵
-        (R.the-row .own z (u ∷ []))) ⊛ raw (ensured 𝓤 H A legs-fn.ended (legs-fn.clauses 𝓤 H A at-mem run) (six-lfts (α ∷ [])) (six l8 γ) tt z))))
+        ((‵ (flft κ₀ q₀) ⊛ ‵ (flft κ₁ q₁) ⊛ ‵ (flft κ₂ q₂) ⊛ ‵ (flft κ₃ q₃) ⊛ ‵ (flft κ₄ q₄) ⊛ ‵ (flft κ₅ q₅) ⊛ ‵ (flft (α ∷ []) fullShare) ⊛ ‵ ftrue) ⊛ ‵
+        (R.the-row .own z (u ∷ []))) ⊛ raw (ensured 𝓤 H A legs-fn.ended (legs-fn.clauses 𝓤 H A at-mem run) (seven-lfts (α ∷ [])) (seven l9 γ) tt z))))
         (id⊢ 𝓤 _) $ await ! tt $ pick ! (λ z.
-        split ! $ move ! (1 ∷ []) $ use1 W (some (λ (zs : Last6). ‵ (lasts legs-fn.ended (six-lfts (α ∷ [])) (six l8 γ) zs)))
-        (legs-said 𝓤 H A at-mem run (six-lfts (α ∷ [])) (six l8 γ) z) $ pick ! (λ zs.
+        split ! $ move ! (1 ∷ []) $ use1 W (some (λ (zs : Last7). ‵ (lasts legs-fn.ended (seven-lfts (α ∷ [])) (seven l9 γ) zs)))
+        (legs-said 𝓤 H A at-mem run (seven-lfts (α ∷ [])) (seven l9 γ) z) $ pick ! (λ zs.
         fsplit ! $ drop ! $ fsplit ! $ drop ! $ fsplit ! $ fsplit ! $ move ! (1 ∷ []) $ feqL !
         (λ et. move ! (1 ∷ []) $ fsplit ! $ fsplit ! $ move ! (1 ∷ []) $ feqL !
-        (λ es. move ! (1 ∷ []) $ fsplit ! $ fsplit ! $ move ! (1 ∷ []) $ feqL ! (λ ep.
+        (λ es. move ! (1 ∷ []) $ fsplit ! $ fsplit ! $ move ! (1 ∷ []) $ feqL !
+        (λ ew. move ! (1 ∷ []) $ fsplit ! $ fsplit ! $ move ! (1 ∷ []) $ feqL ! (λ ep.
         move ! (1 ∷ []) $ fsplit ! $ fsplit ! $ move ! (1 ∷ []) $ drop ! $ move ! (1 ∷ []) $ drop ! $
-        -- [the last legs, plan, slots, table; the tokens and the answer; …]
-        move ! (4 ∷ []) $ split ! $
-        use1 W ((‵ (flft κ₀ q₀) ⊛ ‵ (flft κ₁ q₁) ⊛ ‵ (flft κ₂ q₂) ⊛ ‵ (flft κ₃ q₃) ⊛ ‵ (flft κ₄ q₄) ⊛ ‵ ftrue) ⊛ ‵ (flft (α ∷ []) fullShare))
+        -- [the last legs, plan, weights, slots, table; the tokens and the answer; …]
+        move ! (5 ∷ []) $ split ! $
+        use1 W ((‵ (flft κ₀ q₀) ⊛ ‵ (flft κ₁ q₁) ⊛ ‵ (flft κ₂ q₂) ⊛ ‵ (flft κ₃ q₃) ⊛ ‵ (flft κ₄ q₄) ⊛ ‵ (flft κ₅ q₅) ⊛ ‵ ftrue) ⊛ ‵ (flft (α ∷ []) fullShare))
         (cut-tokens (α ∷ [])) $ split ! $
         move ! (1 ∷ []) $ lft-end ! tt $
-        move ! (0 ∷ 7 ∷ 3 ∷ []) $ use3 W
-        (later (some (λ (v : Val). ‵ (Cell 𝓤 H A W T.the-row 32 room l8 v) ⊛ ‵ (Array T.the-row 32 .own (ends zs) (v ∷ [])))))
-        (first-back 𝓤 H A W T.the-row 32 room l8 (α ∷ []) γ old (zs .1 .1 .1 .1 .1 .0) within old-long) $ await ! tt $ pick ! (λ v. split ! $
-        -- [the array; what its structs own; the tokens; the answer; the last plan, slots, table; …]
+        move ! (0 ∷ 8 ∷ 3 ∷ []) $ use3 W
+        (later (some (λ (v : Val). ‵ (Cell 𝓤 H A W T.the-row 32 room l9 v) ⊛ ‵ (Array T.the-row 32 .own (ends zs) (v ∷ [])))))
+        (first-back 𝓤 H A W T.the-row 32 room l9 (α ∷ []) γ old (zs .1 .1 .1 .1 .1 .1 .0) within old-long) $ await ! tt $ pick ! (λ v. split ! $
+        -- [the array; what its structs own; the tokens; the answer; the last plan, weights, slots, table; …]
         move ! (1 ∷ []) $ peeks ! (Array T.the-row 32) (Is (Array T.the-row 32)) (shows 𝓤 H A (Array T.the-row 32)) (ends zs) (v ∷ []) (λ is-legs. drop ! $
         move ! (2 ∷ []) $ peeks ! R.the-row (Is R.the-row) (shows 𝓤 H A R.the-row) z (u ∷ []) (λ is-z. drop ! $
-        land ! (from ! (stop !)) (init ! 23 refl (LL.lawful R.the-type R′.the-laws 𝓤 H A W .typed z (u ∷ []) is-z .0)) $
-        assigns ! (of-opd ! (load ! (from ! (stop !)) (look ! 0 refl))) (from ! (stop !)) (init ! 5 refl (legs-typed (ends zs) v is-legs)) $
-        assigns ! (agg ! (and-then ! (load ! (from ! (stop !)) (look ! 23 refl)) (and-then ! (load ! (from ! (stop !)) (look ! 5 refl)) (no-more !))))
-        (from ! (stop !)) (init ! 40 refl (after-typed z (ends zs) u v is-z is-legs)) $
-        returns ! (look ! 40 refl) $
-        forget ! 5 refl $ forget ! 7 refl $ forget ! 9 refl $ forget ! 11 refl $ forget ! 13 refl $ forget ! 15 refl $ forget ! 17 refl
-        $ forget ! 19 refl $ forget ! 21 refl $ forget ! 23 refl $ forget ! 0 refl $ forget ! 26 refl $ forget ! 28 refl $ forget ! 30 refl
-        $ forget ! 32 refl $ forget ! 34 refl $ forget ! 36 refl $ forget ! 38 refl $ forget ! 40 refl $
-        move ! (40 ∷ 41 ∷ []) $ free1 ! $ move ! (38 ∷ 39 ∷ []) $ free1 ! $ move ! (36 ∷ 37 ∷ []) $ free1 ! $ move ! (34 ∷ 35 ∷ []) $ free1 ! $ move !
-        (32 ∷ 33 ∷ []) $ free1 ! $ move ! (30 ∷ 31 ∷ []) $ free1 ! $ move ! (28 ∷ 29 ∷ []) $ free1 ! $ move ! (26 ∷ 27 ∷ []) $ free1 ! $ move !
-        (0 ∷ 25 ∷ []) $ free1 ! $ move ! (22 ∷ 23 ∷ []) $ free1 ! $ move ! (20 ∷ 21 ∷ []) $ free1 ! $ move ! (18 ∷ 19 ∷ []) $ free1 ! $ move !
-        (16 ∷ 17 ∷ []) $ free1 ! $ move ! (14 ∷ 15 ∷ []) $ free1 ! $ move ! (12 ∷ 13 ∷ []) $ free1 ! $ move ! (10 ∷ 11 ∷ []) $ free1 ! $ move !
-        (8 ∷ 9 ∷ []) $ free1 ! $ move ! (6 ∷ 7 ∷ []) $ free1 ! $ move ! (4 ∷ 5 ∷ []) $ free1 ! $ free0 ! $
-        by ! (exits z (ends zs) u v (zs .1 .1 .0) (zs .1 .1 .1 .0) (zs .1 .1 .1 .1 .0) is-z is-legs et es ep)))))))))))))))))))))))))))))))
+        land ! (from ! (stop !)) (init ! 28 refl (LL.lawful R.the-type R′.the-laws 𝓤 H A W .typed z (u ∷ []) is-z .0)) $
+        assigns ! (of-opd ! (load ! (from ! (stop !)) (look ! 0 refl))) (from ! (stop !)) (init ! 6 refl (legs-typed (ends zs) v is-legs)) $
+        assigns ! (agg ! (and-then ! (load ! (from ! (stop !)) (look ! 28 refl)) (and-then ! (load ! (from ! (stop !)) (look ! 6 refl)) (no-more !))))
+        (from ! (stop !)) (init ! 47 refl (after-typed z (ends zs) u v is-z is-legs)) $
+        returns ! (look ! 47 refl) $
+        forget ! 6 refl $ forget ! 8 refl $ forget ! 10 refl $ forget ! 12 refl $ forget ! 14 refl $ forget ! 16 refl $ forget ! 18 refl
+        $ forget ! 20 refl $ forget ! 22 refl $ forget ! 24 refl $ forget ! 26 refl $ forget ! 28 refl $ forget ! 0 refl $ forget ! 31 refl
+        $ forget ! 33 refl $ forget ! 35 refl $ forget ! 37 refl $ forget ! 39 refl $ forget ! 41 refl $ forget ! 43 refl $ forget ! 45 refl
+        $ forget ! 47 refl $
+        move ! (47 ∷ 48 ∷ []) $ free1 ! $ move ! (45 ∷ 46 ∷ []) $ free1 ! $ move ! (43 ∷ 44 ∷ []) $ free1 ! $ move ! (41 ∷ 42 ∷ []) $ free1 !
+        $ move ! (39 ∷ 40 ∷ []) $ free1 ! $ move ! (37 ∷ 38 ∷ []) $ free1 ! $ move ! (35 ∷ 36 ∷ []) $ free1 ! $ move ! (33 ∷ 34 ∷ []) $ free1 !
+        $ move ! (31 ∷ 32 ∷ []) $ free1 ! $ move ! (0 ∷ 30 ∷ []) $ free1 ! $ move ! (27 ∷ 28 ∷ []) $ free1 ! $ move ! (25 ∷ 26 ∷ []) $ free1 !
+        $ move ! (23 ∷ 24 ∷ []) $ free1 ! $ move ! (21 ∷ 22 ∷ []) $ free1 ! $ move ! (19 ∷ 20 ∷ []) $ free1 ! $ move ! (17 ∷ 18 ∷ []) $ free1 !
+        $ move ! (15 ∷ 16 ∷ []) $ free1 ! $ move ! (13 ∷ 14 ∷ []) $ free1 ! $ move ! (11 ∷ 12 ∷ []) $ free1 ! $ move ! (9 ∷ 10 ∷ []) $ free1 !
+        $ move ! (7 ∷ 8 ∷ []) $ free1 ! $ move ! (5 ∷ 6 ∷ []) $ free1 ! $ free0 ! $
+        by ! (exits z (ends zs) u v (zs .1 .1 .0) (zs .1 .1 .1 .0) (zs .1 .1 .1 .1 .0)
+        (zs .1 .1 .1 .1 .1 .0) is-z is-legs et es ew ep)))))))))))))))))))))))))))))))))))
 
 module _ {M : Type 1} (𝓤 : URA M) (H : Heap 𝓤) (A : Atoms 𝓤) (W : Given 𝓤 H A) (at-mem : Memory → SProp 𝓤) (run : Routine → Fun 𝓤) where
   lend-walks : (C : Calls 𝓤 H) (Λ : Loops 𝓤 H) → FmC 𝓤 H (W .laws) C → Triple 𝓤 (C #planner·rollback-assemble-legs) (Legs 𝓤 H A at-mem run)
       → Walks 𝓤 H A lend.ended stayed (WpFn 𝓤 H C Λ code.function) (lend.clauses 𝓤 H A at-mem run)
   lend-walks C Λ fm known = walked 𝓤 H A lend.ended stayed (lend.clauses 𝓤 H A at-mem run) (WpFn 𝓤 H C Λ code.function)
-      (λ κs. (slice-vals, (slice-vals, (slice-vals, (slice-vals, (slice-vals, (array-vals (LL.vals T.the-type T′.the-laws), (uint-vals w64, tt))))))))
+      (λ κs. (slice-vals, (slice-vals, (slice-vals, (slice-vals, (slice-vals, (slice-vals, (array-vals (LL.vals T.the-type T′.the-laws), (uint-vals w64, tt)))))))))
       (λ κs. (
         shr-slice-tells (named 0) (κs .0) u8,
         (
@@ -340,33 +365,39 @@ module _ {M : Type 1} (𝓤 : URA M) (H : Heap 𝓤) (A : Atoms 𝓤) (W : Given
             (
               mut-slice-tells (named 3) (κs .1 .1 .1 .0) u8,
               (
-                mut-slice-tells (named 4) (κs .1 .1 .1 .1 .0) u8,
-                (array-tells T.the-row (LL.vals T.the-type T′.the-laws) (LL.tells T.the-type T′.the-laws) 32, (uint-tells w64, tt)),
+                mut-slice-tells (named 4) (κs .1 .1 .1 .1 .0) u16,
+                (
+                  mut-slice-tells (named 5) (κs .1 .1 .1 .1 .1 .0) u8,
+                  (array-tells T.the-row (LL.vals T.the-type T′.the-laws) (LL.tells T.the-type T′.the-laws) 32, (uint-tells w64, tt)),
+                ),
               ),
             ),
           ),
         ),
       ))
-      (λ κs qs bounds a g are. needs 𝓤 (a .1 .1 .1 .1 .1 .1 .0 ≤ 32) _ (λ within.
-      walk 𝓤 H A W at-mem run (κs .0) (κs .1 .0) (κs .1 .1 .0) (κs .1 .1 .1 .0) (κs .1 .1 .1 .1 .0) (qs .0) (qs .1 .0) (qs .1 .1 .0) (qs .1 .1 .1 .0)
-      (qs .1 .1 .1 .1 .0)
-      (a .0) (a .1 .0) (a .1 .1 .0) (a .1 .1 .1 .0) (a .1 .1 .1 .1 .0) (a .1 .1 .1 .1 .1 .0) _ (a .1 .1 .1 .1 .1 .1 .0) C Λ fm known
-      (are .0) (are .1 .0) (are .1 .1 .0 .0 .1) (are .1 .1 .1 .0 .0 .1) (are .1 .1 .1 .1 .0 .0 .1)
-      (array-lawful 𝓤 H A W T.the-row (LL.lawful T.the-type T′.the-laws 𝓤 H A W) 32 .typed (a .1 .1 .1 .1 .1 .0) _ (are .1 .1 .1 .1 .1 .0) .0)
-      (are .1 .1 .1 .1 .1 .0 .1 .0 .1) (are .1 .1 .1 .1 .1 .1 .0 .1) within))
+      (λ κs qs bounds a g are. needs 𝓤 (a .1 .1 .1 .1 .1 .1 .1 .0 ≤ 32) _ (λ within.
+      walk 𝓤 H A W at-mem run (κs .0) (κs .1 .0) (κs .1 .1 .0) (κs .1 .1 .1 .0) (κs .1 .1 .1 .1 .0) (κs .1 .1 .1 .1 .1 .0) (qs .0) (qs .1 .0)
+      (qs .1 .1 .0) (qs .1 .1 .1 .0) (qs .1 .1 .1 .1 .0) (qs .1 .1 .1 .1 .1 .0)
+      (a .0) (a .1 .0) (a .1 .1 .0) (a .1 .1 .1 .0) (a .1 .1 .1 .1 .0) (a .1 .1 .1 .1 .1 .0) (a .1 .1 .1 .1 .1 .1 .0) _ (a .1 .1 .1 .1 .1 .1 .1 .0) C Λ fm known
+      (are .0) (are .1 .0) (are .1 .1 .0 .0 .1) (are .1 .1 .1 .0 .0 .1) (are .1 .1 .1 .1 .0 .0 .1) (are .1 .1 .1 .1 .1 .0 .0 .1)
+      (array-lawful 𝓤 H A W T.the-row (LL.lawful T.the-type T′.the-laws 𝓤 H A W) 32 .typed (a .1 .1 .1 .1 .1 .1 .0) _ (are .1 .1 .1 .1 .1 .1 .0) .0)
+      (are .1 .1 .1 .1 .1 .1 .0 .1 .0 .1) (are .1 .1 .1 .1 .1 .1 .1 .0 .1) within))
 
-  goes : AllGo 𝓤 H A W 5 (lend.signature .params) (lend.ended .kept) stayed
+  goes : AllGo 𝓤 H A W 6 (lend.signature .params) (lend.ended .kept) stayed
   goes = (
-    goes-dropped 𝓤 H A W 5 Book yes (λ κs x f. refl),
+    goes-dropped 𝓤 H A W 6 Book yes (λ κs x f. refl),
     (
-      goes-dropped 𝓤 H A W 5 Ran yes (λ κs x f. refl),
+      goes-dropped 𝓤 H A W 6 Ran yes (λ κs x f. refl),
       (
-        goes-gave-slice 𝓤 H A W 5 2 tt (plain (λ _. u64)),
+        goes-gave-slice 𝓤 H A W 6 2 tt (plain (λ _. u64)),
         (
-          goes-gave-slice 𝓤 H A W 5 3 tt (plain (λ _. u8)),
+          goes-gave-slice 𝓤 H A W 6 3 tt (plain (λ _. u8)),
           (
-            goes-gave-slice 𝓤 H A W 5 4 tt (plain (λ _. u8)),
-            (goes-dropped 𝓤 H A W 5 Old yes (λ κs x f. refl), (goes-dropped 𝓤 H A W 5 Count yes (λ κs x f. refl), tt)),
+            goes-gave-slice 𝓤 H A W 6 4 tt (plain (λ _. u16)),
+            (
+              goes-gave-slice 𝓤 H A W 6 5 tt (plain (λ _. u8)),
+              (goes-dropped 𝓤 H A W 6 Old yes (λ κs x f. refl), (goes-dropped 𝓤 H A W 6 Count yes (λ κs x f. refl), tt)),
+            ),
           ),
         ),
       ),

@@ -4,6 +4,12 @@ use lib.ListN.{length-take}
 use borrow.Author.Needs.{needs}
 use Rattle.page_vectors.proofs.lend.Statement.{statement}
 use Rattle.page_vectors.proofs.lend.Tie as tie
+use Rattle.page_vectors.proofs.lend.Reads as reads
+use Rattle.page_vectors.proofs.lend.Lts as lts
+use Rattle.page_vectors.proofs.print_answer.Reads as print-answer-reads
+use Rattle.page_vectors.proofs.size.Reads as size-reads
+use Rattle.paper.proofs.lay_out.Reads as lay-out-reads
+use Rattle.vectors.proofs.part.Reads as part-reads
 
 size-requires : tie.Need-size-requires
 size-requires c κs = search needs
@@ -19,6 +25,9 @@ size-requires-4 c κs = search needs
 
 size-requires-5 : tie.Need-size-requires-5
 size-requires-5 c κs = search needs
+
+size-requires-6 : tie.Need-size-requires-6
+size-requires-6 c κs = search needs
 
 slice-relend-prefix-lay-out : tie.Need-slice-relend-prefix-lay-out
 slice-relend-prefix-lay-out c = search needs
@@ -50,6 +59,12 @@ slice-relend-prefix-lay-out-5 c = search needs
 slice-aggregate-lay-out-5 : tie.Need-slice-aggregate-lay-out-5
 slice-aggregate-lay-out-5 c = simp length-take (omega arith)
 
+slice-relend-prefix-lay-out-6 : tie.Need-slice-relend-prefix-lay-out-6
+slice-relend-prefix-lay-out-6 c = search needs
+
+slice-aggregate-lay-out-6 : tie.Need-slice-aggregate-lay-out-6
+slice-aggregate-lay-out-6 c = simp length-take (omega arith)
+
 lay-out-requires : tie.Need-lay-out-requires
 lay-out-requires c κs = search needs
 
@@ -74,6 +89,9 @@ same-length-4 c = search needs
 same-length-5 : tie.Need-same-length-5
 same-length-5 c = search needs
 
+same-length-6 : tie.Need-same-length-6
+same-length-6 c = search needs
+
 returns : tie.Need-returns
 returns c = search needs
 
@@ -86,6 +104,7 @@ lend-spec =
     size-requires-3
     size-requires-4
     size-requires-5
+    size-requires-6
     slice-relend-prefix-lay-out
     slice-aggregate-lay-out
     slice-relend-prefix-lay-out-2
@@ -96,6 +115,8 @@ lend-spec =
     slice-aggregate-lay-out-4
     slice-relend-prefix-lay-out-5
     slice-aggregate-lay-out-5
+    slice-relend-prefix-lay-out-6
+    slice-aggregate-lay-out-6
     lay-out-requires
     part-requires
     print-answer-requires
@@ -104,4 +125,5 @@ lend-spec =
     same-length-3
     same-length-4
     same-length-5
+    same-length-6
     returns)

@@ -8,12 +8,22 @@ use borrow.Author.Needs.{needs}
 use Rattle.paper.proofs.lay_out.Statement.{statement}
 use Rattle.paper.proofs.lay_out.Tie as tie
 
+-- ---- places: the book at entry, assembling, and the test of the page
+abbrev entry : tie.After-refused → tie.After-shared-slice-known
+entry c = c .before .before .before .before .before .before .before .before .before
+
+abbrev assembled : tie.After-put-lines-arg3 → tie.After-assemble
+assembled c = c .before .before .before .before .before .before .before .before .before .before .before .before .before
+
+abbrev tested : tie.After-assemble → tie.Else1
+tested c = c .before .before .before .before .before .before
+
 refused-requires : tie.Need-refused-requires
 refused-requires c κs = search needs
 
 returns : tie.Need-returns
 returns c =
-    let k = c .before .before .before .before .before .before .before .before in
+    let k = entry c in
     let a = k .before .args in
     page-short (each-of (λ x. x < 256) (a .book .now) 0 (λ i h. omega (arith, k .shared-slice-known .given i))) (c .before .if1 .taken) (c .refused .ensures)
 
@@ -22,8 +32,8 @@ assemble-requires c κs = search needs
 
 put-lines-requires : tie.Need-put-lines-requires
 put-lines-requires c κs =
-    let m = c .before .before .before .before .before .before .before .before .before .before .before in
-    (legs-few even-bytes (m .assemble .ensures), m .before .before .before .before .before .if1 .left)
+    let m = assembled c in
+    (legs-few even-bytes (m .assemble .ensures), tested m .if1 .left)
 
 same-length : tie.Need-same-length
 same-length c = search needs
@@ -40,10 +50,13 @@ same-length-4 c = search needs
 same-length-5 : tie.Need-same-length-5
 same-length-5 c = search needs
 
+same-length-6 : tie.Need-same-length-6
+same-length-6 c = search needs
+
 returns-2 : tie.Need-returns-2
 returns-2 c =
-    let m = c .before .before .before .before .before .before .before .before .before .before .before .before .before .before in
-    page-long (m .before .before .before .before .before .if1 .left) (m .assemble .ensures) (c .before .before .put-lines .ensures)
+    let m = assembled (c .before .before .before) in
+    page-long (tested m .if1 .left) (m .assemble .ensures) (c .before .before .put-lines .ensures)
 
 pub lay-out-spec : {M : Type 1} → statement M
 lay-out-spec =
@@ -58,4 +71,5 @@ lay-out-spec =
     same-length-3
     same-length-4
     same-length-5
+    same-length-6
     returns-2)

@@ -13,14 +13,14 @@ use Rattle.assembly.proofs.assemble.Reads as assemble-reads
 use Rattle.assembly.proofs.refused.Reads as refused-reads
 
 -- what is lent as the book and as the run is bytes
-abbrev start : tie.After-slice-known3 → tie.Start
-start c = c .before .before .before .before .before
+abbrev start : tie.After-slice-known4 → tie.Start
+start c = c .before .before .before .before .before .before
 
-book-bytes : (c : tie.After-slice-known3) → Bytes (start c .args .book .now)
-book-bytes c = each-of (λ x. x < 256) (start c .args .book .now) 0 (λ i h. omega (arith, c .before .before .before .before .shared-slice-known .given i))
+book-bytes : (c : tie.After-slice-known4) → Bytes (start c .args .book .now)
+book-bytes c = each-of (λ x. x < 256) (start c .args .book .now) 0 (λ i h. omega (arith, c .before .before .before .before .before .shared-slice-known .given i))
 
-run-bytes : (c : tie.After-slice-known3) → Bytes (start c .args .run .now)
-run-bytes c = each-of (λ x. x < 256) (start c .args .run .now) 0 (λ i h. omega (arith, c .before .before .before .shared-slice-known2 .given i))
+run-bytes : (c : tie.After-slice-known4) → Bytes (start c .args .run .now)
+run-bytes c = each-of (λ x. x < 256) (start c .args .run .now) 0 (λ i h. omega (arith, c .before .before .before .before .shared-slice-known2 .given i))
 
 refused-requires : tie.Need-refused-requires
 refused-requires c κs = search needs
@@ -43,10 +43,13 @@ same-length-2 c = search needs
 same-length-3 : tie.Need-same-length-3
 same-length-3 c = search needs
 
+same-length-4 : tie.Need-same-length-4
+same-length-4 c = search needs
+
 returns-2 : tie.Need-returns-2
 returns-2 c =
-    let called = c .before .before .before .before .before .before .before in
-    whole-enough (called .assemble .ensures) _ (called .before .before .before .before .before .if1 .left)
+    let called = c .before .before .before .before .before .before .before .before .before in
+    whole-enough (called .assemble .ensures) _ (called .before .before .before .before .before .before .if1 .left)
 
 pub assemble-whole-spec : {M : Type 1} → statement M
 assemble-whole-spec =
@@ -59,4 +62,5 @@ assemble-whole-spec =
     same-length
     same-length-2
     same-length-3
+    same-length-4
     returns-2)

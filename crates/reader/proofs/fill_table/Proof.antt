@@ -14,6 +14,7 @@ use Rattle.reader.proofs.fill_table.Statement.{statement}
 use Rattle.reader.proofs.fill_table.Tie as tie
 use Rattle.reader.proofs.fill_table.Reads as reads
 use Rattle.reader.proofs.fill_table.Lts as lts
+use Rattle.items.proofs.first_move.Reads as first-move-reads
 use Rattle.octets.proofs.byte_at.Reads as byte-at-reads
 use Rattle.octets.proofs.u16_at.Reads as u16-at-reads
 use Rattle.reader.proofs.fill.clear.Reads as clear-reads
@@ -21,14 +22,14 @@ use Rattle.reader.proofs.fill.put_move.Reads as put-move-reads
 
 abbrev Inv-loop : tie.InvT-loop
 Inv-loop book table₀ n m at₀ table at =
-    (at ≤ length book + 12) × (length table ≡ length table₀)
+    (at ≤ length book + 65545) × (length table ≡ length table₀)
     × ((b : Book) → AllowedBook b → bytesOf b ≡ book → Entering book b (filled (b .m) (b .moves) table₀) at table)
 
 abbrev μ-loop : tie.MeasureT-loop
-μ-loop book table₀ n m at₀ table at = length book + 14 - at
+μ-loop book table₀ n m at₀ table at = length book + 65559 - at
 
 abbrev book-of : tie.At-loop Inv-loop μ-loop → List ℕ
-book-of c = c .before .before .before .before .before .before .before .before .before .args .book .now
+book-of c = c .before .before .before .before .before .before .before .before .before .before .args .book .now
 
 -- where a move stands, the book goes on
 more : (c : tie.Then1 Inv-loop μ-loop) → c .before .before .loop .at + 2 < length (book-of (c .before .before))
@@ -47,8 +48,11 @@ mul-clear c =
 clear-requires : tie.Need-clear-requires Inv-loop μ-loop
 clear-requires c κs = search needs
 
+first-move-requires : tie.Need-first-move-requires Inv-loop μ-loop
+first-move-requires c κs = search needs
+
 loop-holds : tie.Need-loop-holds Inv-loop μ-loop
-loop-holds c = (omega arith, refl, λ b a e. entering _ b _ a e)
+loop-holds c = (omega arith, refl, λ b a e. entering _ a (c .first-move .ensures .0 .begins b a e))
 
 add-u16-at : tie.Need-add-u16-at Inv-loop μ-loop
 add-u16-at c = omega arith
@@ -73,7 +77,7 @@ loop-again c =
       omega (arith, more t),
       search needs,
       λ b a e.
-          entered a (v .2 b a e) _ _ (l .before .before .before .before .before .byte-at2 .ensures .0 ∙ m-at _ b e) (sym (t .before .u16-at .ensures .0) ∙ t .if1 .taken)
+          entered a (v .2 b a e) _ _ (l .before .before .before .before .before .before .byte-at2 .ensures .0 ∙ m-at _ b e) (sym (t .before .u16-at .ensures .0) ∙ t .if1 .taken)
           (c .before .before .put-move .ensures),
     )
 
@@ -83,13 +87,13 @@ same-length c = search needs
 returns : tie.Need-returns Inv-loop μ-loop
 returns c =
     let l = c .before .before in
-    let d = l .before .before .before .before .before in
+    let d = l .before .before .before .before .before .before in
     let v = l .loop .inv .2 in
     record {
       entries =
           λ b a e.
           all-entered a (v b a e) (λ k. c .if1 .left (c .before .u16-at .ensures .0 ∙ k))
-          ∙ table-is b _ _ _ _ (d .before .byte-at .ensures .0 ∙ n-at _ b e) (d .byte-at2 .ensures .0 ∙ m-at _ b e) (l .before .before .before .clear .ensures);
+          ∙ table-is b _ _ _ _ (d .before .byte-at .ensures .0 ∙ n-at _ b e) (d .byte-at2 .ensures .0 ∙ m-at _ b e) (l .before .before .before .before .clear .ensures);
       begins = λ b a e. at-items a (v b a e) (λ k. c .if1 .left (c .before .u16-at .ensures .0 ∙ k));
     }
 
@@ -103,6 +107,7 @@ fill-table-spec =
     byte-at-requires-2
     mul-clear
     clear-requires
+    first-move-requires
     loop-holds
     add-u16-at
     u16-at-requires

@@ -1,5 +1,5 @@
 -- `read` meets its contract. Assumes nothing.
-use mathlib.Core.Path.{sym, ap₂, _∙_}
+use mathlib.Core.Path.{sym, _∙_}
 use Prim.Native.Nat.{_<_}
 use native.Mathlib.Omega.{arith}
 use Rattle.base.specs.Lists.{Bytes}
@@ -7,6 +7,7 @@ use Rattle.base.specs.Sizes.{LongEnough}
 use Rattle.base.proofs.Lists.{each-of}
 use Rattle.base.proofs.Sizes.{short-here, short-past}
 use Rattle.book.specs.Lent.{Lent, lent, sizes}
+use Rattle.book.proofs.Lent.{same-buffers}
 use Rattle.reader.proofs.Ways.{as-short, as-faulty, as-book}
 use Rattle.reader.proofs.Filling.{found, refused as fault-found}
 use borrow.Author.Needs.{needs}
@@ -16,25 +17,26 @@ use Rattle.reader.proofs.read.Reads as reads
 use Rattle.reader.proofs.read.Lts as lts
 use Rattle.reader.proofs.fill_slots.Reads as fill-slots-reads
 use Rattle.reader.proofs.fill_table.Reads as fill-table-reads
+use Rattle.reader.proofs.fill_weights.Reads as fill-weights-reads
 use Rattle.reader.proofs.judge.Reads as judge-reads
 use Rattle.reader.proofs.refused.Reads as refused-reads
 
 -- ---- places: at entry, and where the lengths are tested
-abbrev entry : tie.After-slice-known2 → tie.After-shared-slice-known
-entry c = c .before .before
+abbrev entry : tie.After-slice-known3 → tie.After-shared-slice-known
+entry c = c .before .before .before
 
-abbrev tested : tie.After-judge → tie.After-slice-known2
-tested c = c .before .before .before
+abbrev tested : tie.After-judge → tie.After-slice-known3
+tested c = c .before .before .before .before
 
-abbrev buffers : tie.After-slice-known2 → Lent
-buffers c = let a = entry c .before .args in lent (a .table .now) (a .slots .now)
+abbrev buffers : tie.After-slice-known3 → Lent
+buffers c = let a = entry c .before .args in lent (a .table .now) (a .slots .now) (a .weights .now)
 
 -- ---- what holds there
-bytes : (c : tie.After-slice-known2) → Bytes (entry c .before .args .book .now)
+bytes : (c : tie.After-slice-known3) → Bytes (entry c .before .args .book .now)
 bytes c = each-of (λ x. x < 256) (entry c .before .args .book .now) 0 (λ i h. omega (arith, entry c .shared-slice-known .given i))
 
 long : (c : tie.After-judge) → LongEnough (sizes (buffers (tested c)))
-long c = (c .before .before .if1 .left, (c .before .if2 .left, tt))
+long c = (c .before .before .before .if1 .left, (c .before .before .if2 .left, (c .before .if3 .left, tt)))
 
 refused-requires : tie.Need-refused-requires
 refused-requires c κs = search needs
@@ -50,14 +52,23 @@ returns-2 c =
     as-short _ _ (bytes (c .before .before .before))
     (short-past _ _ (c .before .before .if1 .left) ∙ short-here _ _ (c .before .if2 .taken)) _ (c .refused2 .ensures)
 
+refused-requires-3 : tie.Need-refused-requires-3
+refused-requires-3 c κs = search needs
+
+returns-3 : tie.Need-returns-3
+returns-3 c =
+    as-short _ _ (bytes (c .before .before .before .before))
+    (short-past _ _ (c .before .before .before .if1 .left) ∙ (short-past _ _ (c .before .before .if2 .left) ∙ short-here _ _ (c .before .if3 .taken))) _
+    (c .refused3 .ensures)
+
 judge-requires : tie.Need-judge-requires
 judge-requires c κs = search needs
 
 enum-known-seen : tie.Need-enum-known-seen
 enum-known-seen c = search needs
 
-refused-requires-3 : tie.Need-refused-requires-3
-refused-requires-3 c κs = search needs
+refused-requires-4 : tie.Need-refused-requires-4
+refused-requires-4 c κs = search needs
 
 enum-known-seen-2 : tie.Need-enum-known-seen-2
 enum-known-seen-2 c = search needs
@@ -68,11 +79,14 @@ fill-table-requires c κs = search needs
 fill-slots-requires : tie.Need-fill-slots-requires
 fill-slots-requires c κs = search needs
 
-returns-3 : tie.Need-returns-3
-returns-3 c =
+fill-weights-requires : tie.Need-fill-weights-requires
+fill-weights-requires c κs = search needs
+
+returns-4 : tie.Need-returns-4
+returns-4 c =
     let j = c .before .before .before .before in
     as-faulty _ _ (bytes (tested j)) (long j) _ _
-    (fault-found _ _ _ (sym (j .judge .ensures .0) ∙ c .before .before .seen .given .1)) _ (c .refused3 .ensures)
+    (fault-found _ _ _ (sym (j .judge .ensures .0) ∙ c .before .before .seen .given .1)) _ (c .refused4 .ensures)
 
 same-length : tie.Need-same-length
 same-length c = search needs
@@ -80,16 +94,21 @@ same-length c = search needs
 same-length-2 : tie.Need-same-length-2
 same-length-2 c = search needs
 
-returns-4 : tie.Need-returns-4
-returns-4 c =
-    let seen = c .before .before .before .before .before .before .before .before .before .seen2 .given in
-    let j = c .before .before .before .before .before .before .before .before .before .before .before in
+same-length-3 : tie.Need-same-length-3
+same-length-3 c = search needs
+
+returns-5 : tie.Need-returns-5
+returns-5 c =
+    let seen = c .before .before .before .before .before .before .before .before .before .before .before .before .before .seen2 .given in
+    let j = c .before .before .before .before .before .before .before .before .before .before .before .before .before .before .before in
     let f = found _ (seen .0 .0) (bytes (tested j)) (sym (j .judge .ensures .0) ∙ seen .1) in
-    let t = c .before .before .before .before .before .before .fill-table .ensures in
-    let d = c .before .before .fill-slots .ensures in
+    let t = c .before .before .before .before .before .before .before .before .before .before .fill-table .ensures in
+    let d = c .before .before .before .before .before .before .fill-slots .ensures in
+    let w = c .before .before .fill-weights .ensures in
     let first = t .begins (f .book) (f .allowed) (f .bytes) in
     as-book _ _ (bytes (tested j)) (long j) (f .book) (f .parsed) _ _ (f .result)
-    (ap₂ lent (t .entries (f .book) (f .allowed) (f .bytes)) (d .items (f .book) (f .allowed) (f .bytes) first))
+    (same-buffers (t .entries (f .book) (f .allowed) (f .bytes)) (d .items (f .book) (f .allowed) (f .bytes) first)
+    (w .each (f .book) (f .allowed) (f .bytes)))
 
 pub read-spec : {M : Type 1} → statement M
 read-spec =
@@ -99,13 +118,17 @@ read-spec =
     returns
     refused-requires-2
     returns-2
+    refused-requires-3
+    returns-3
     judge-requires
     enum-known-seen
-    refused-requires-3
+    refused-requires-4
     enum-known-seen-2
     fill-table-requires
     fill-slots-requires
-    returns-3
+    fill-weights-requires
+    returns-4
     same-length
     same-length-2
-    returns-4)
+    same-length-3
+    returns-5)

@@ -30,6 +30,9 @@ slice-aggregate-assemble-5 c = search needs
 slice-aggregate-assemble-6 : tie.Need-slice-aggregate-assemble-6
 slice-aggregate-assemble-6 c = search needs
 
+slice-aggregate-assemble-7 : tie.Need-slice-aggregate-assemble-7
+slice-aggregate-assemble-7 c = search needs
+
 assemble-requires : tie.Need-assemble-requires
 assemble-requires c κs = search needs
 
@@ -45,8 +48,8 @@ same-length c = search needs
 returns : tie.Need-returns
 returns c =
     let l = c .before .before in
-    let a = l .before .before .before .before .before .before .before in
-    let m = a .before .before .before .before .before .before .before in
+    let a = l .before .before .before .before .before .before .before .before in
+    let m = a .before .before .before .before .before .before .before .before in
     reported (m .before .at-most .ensures) (m .at-most2 .ensures) (a .assemble .ensures) (l .lines .ensures .0) (l .lines .ensures .1 .0) (l .lines .ensures .1 .1)
 
 pub report-spec : {M : Type 1} → statement M
@@ -61,6 +64,7 @@ report-spec =
     slice-aggregate-assemble-4
     slice-aggregate-assemble-5
     slice-aggregate-assemble-6
+    slice-aggregate-assemble-7
     assemble-requires
     slice-aggregate-lines
     lines-requires

@@ -7,7 +7,7 @@ use Rattle.write_vectors.proofs.main.Statement.{statement}
 use Rattle.write_vectors.proofs.main.Tie as tie
 
 abbrev Inv-loop : tie.InvT-loop
-Inv-loop file case₀ counter₀ case counter = (counter ≤ 500) × (length case ≡ 511)
+Inv-loop file case₀ counter₀ case counter = (counter ≤ 500) × (length case ≡ 575)
 
 abbrev μ-loop : tie.MeasureT-loop
 μ-loop file case₀ counter₀ case counter = 500 - counter

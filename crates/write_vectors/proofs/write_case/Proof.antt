@@ -4,12 +4,12 @@ use lib.ListN.{length-take}
 use borrow.Author.Needs.{needs}
 use Rattle.write_vectors.proofs.write_case.Statement.{statement}
 use Rattle.write_vectors.proofs.write_case.Tie as tie
-
-fill-table-requires : tie.Need-fill-table-requires
-fill-table-requires c κs = search needs
-
-copy-requires : tie.Need-copy-requires
-copy-requires c κs = search needs
+use Rattle.write_vectors.proofs.write_case.Reads as reads
+use Rattle.write_vectors.proofs.write_case.Lts as lts
+use Rattle.octets.proofs.byte_at.Reads as byte-at-reads
+use Rattle.octets.proofs.u64_at.Reads as u64-at-reads
+use Rattle.write_vectors.proofs.size.Reads as size-reads
+use Rattle.writer.proofs.write.Reads as write-reads
 
 byte-at-requires : tie.Need-byte-at-requires
 byte-at-requires c κs = search needs
@@ -23,6 +23,9 @@ size-requires-2 c κs = search needs
 size-requires-3 : tie.Need-size-requires-3
 size-requires-3 c κs = search needs
 
+size-requires-4 : tie.Need-size-requires-4
+size-requires-4 c κs = search needs
+
 u64-at-requires : tie.Need-u64-at-requires
 u64-at-requires c κs = search needs
 
@@ -32,35 +35,26 @@ u64-at-requires-2 c κs = search needs
 u64-at-requires-3 : tie.Need-u64-at-requires-3
 u64-at-requires-3 c κs = search needs
 
-slice-reshare-prefix-write : tie.Need-slice-reshare-prefix-write
-slice-reshare-prefix-write c = search needs
-
 slice-aggregate-write : tie.Need-slice-aggregate-write
 slice-aggregate-write c = simp length-take (omega arith)
-
-slice-reshare-prefix-write-2 : tie.Need-slice-reshare-prefix-write-2
-slice-reshare-prefix-write-2 c = search needs
 
 slice-aggregate-write-2 : tie.Need-slice-aggregate-write-2
 slice-aggregate-write-2 c = simp length-take (omega arith)
 
+slice-aggregate-write-3 : tie.Need-slice-aggregate-write-3
+slice-aggregate-write-3 c = simp length-take (omega arith)
+
 slice-relend-prefix-write : tie.Need-slice-relend-prefix-write
 slice-relend-prefix-write c = search needs
 
-slice-aggregate-write-3 : tie.Need-slice-aggregate-write-3
-slice-aggregate-write-3 c = simp length-take (omega arith)
+slice-aggregate-write-4 : tie.Need-slice-aggregate-write-4
+slice-aggregate-write-4 c = simp length-take (omega arith)
 
 write-requires : tie.Need-write-requires
 write-requires c κs = search needs
 
 same-length : tie.Need-same-length
 same-length c = search needs
-
-same-length-2 : tie.Need-same-length-2
-same-length-2 c = search needs
-
-same-length-3 : tie.Need-same-length-3
-same-length-3 c = search needs
 
 returns : tie.Need-returns
 returns c = search needs
@@ -69,23 +63,19 @@ pub write-case-spec : {M : Type 1} → statement M
 write-case-spec =
     tie.close
     (tie.spec
-    fill-table-requires
-    copy-requires
     byte-at-requires
     size-requires
     size-requires-2
     size-requires-3
+    size-requires-4
     u64-at-requires
     u64-at-requires-2
     u64-at-requires-3
-    slice-reshare-prefix-write
     slice-aggregate-write
-    slice-reshare-prefix-write-2
     slice-aggregate-write-2
-    slice-relend-prefix-write
     slice-aggregate-write-3
+    slice-relend-prefix-write
+    slice-aggregate-write-4
     write-requires
     same-length
-    same-length-2
-    same-length-3
     returns)

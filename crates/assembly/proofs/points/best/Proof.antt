@@ -13,25 +13,26 @@ use Rattle.assembly.proofs.points.best.Tie as tie
 use Rattle.assembly.proofs.points.best.Reads as reads
 use Rattle.assembly.proofs.points.best.Lts as lts
 use Rattle.assembly.proofs.points.fits_at.Reads as fits-at-reads
+use Rattle.assembly.proofs.points.price.Reads as price-reads
 use Rattle.assembly.proofs.points.wide.Reads as wide-reads
 use Rattle.slots.proofs.k.Reads as k-reads
-use Rattle.slots.proofs.r.Reads as r-reads
 
 abbrev Inv-loop : tie.InvT-loop
-Inv-loop slots count run sets fewest j number₀ item₀ a₀ number item a = Chosen (linksOf (itemAt slots) run sets count) fewest j a number item × (a ≤ count)
+Inv-loop slots weights count run sets fewest j number₀ item₀ a₀ number item a =
+    Chosen (linksOf (itemAt slots) weights run sets count) fewest j a number item × (a ≤ count)
 
 abbrev μ-loop : tie.MeasureT-loop
-μ-loop slots count run sets fewest j number₀ item₀ a₀ number item a = count - a
+μ-loop slots weights count run sets fewest j number₀ item₀ a₀ number item a = count - a
 
 -- ---- places: the call's start, the loop's head, and the reading of k of an item that fits
 abbrev start : tie.At-loop Inv-loop μ-loop → tie.Start Inv-loop μ-loop
-start c = c .before .before .before
+start c = c .before .before .before .before
 
 abbrev head : tie.After-k Inv-loop μ-loop → tie.At-loop Inv-loop μ-loop
 head c = c .before .before .before .before
 
 abbrev links : tie.Start Inv-loop μ-loop → Links
-links c = linksOf (itemAt (c .args .slots .now)) (c .args .run .now) (c .args .sets .now) (c .args .count)
+links c = linksOf (itemAt (c .args .slots .now)) (c .args .weights .now) (c .args .run .now) (c .args .sets .now) (c .args .count)
 
 -- an item that fits has room
 room : (c : tie.After-k Inv-loop μ-loop) → c .k .result ≤ start (head c) .args .j
@@ -42,7 +43,7 @@ room c =
 
 loop-holds : tie.Need-loop-holds Inv-loop μ-loop
 loop-holds c =
-    let s = c .before .before in
+    let s = c .before .before .before in
     (choice-start (links s) (s .args .fewest .now) (s .args .j), omega arith)
 
 fits-at-requires : tie.Need-fits-at-requires Inv-loop μ-loop
@@ -54,8 +55,8 @@ k-requires c κs = search needs
 sub-low : tie.Need-sub-low Inv-loop μ-loop
 sub-low c = omega (arith, room c)
 
-r-requires : tie.Need-r-requires Inv-loop μ-loop
-r-requires c κs = search needs
+price-requires : tie.Need-price-requires Inv-loop μ-loop
+price-requires c κs = search needs
 
 mul-wide : tie.Need-mul-wide Inv-loop μ-loop
 mul-wide c = omega (arith, room (c .before))
@@ -67,7 +68,7 @@ wide-requires : tie.Need-wide-requires Inv-loop μ-loop
 wide-requires c κs = search needs
 
 add-sum : tie.Need-add-sum Inv-loop μ-loop
-add-sum c = omega (arith, c .wide .ensures, c .before .before .r .ensures)
+add-sum c = omega (arith, c .wide .ensures, c .before .before .price .ensures .1)
 
 add-a : tie.Need-add-a Inv-loop μ-loop
 add-a c = omega arith
@@ -111,7 +112,7 @@ best-spec =
     fits-at-requires
     k-requires
     sub-low
-    r-requires
+    price-requires
     mul-wide
     element-copy-out-wide
     wide-requires

@@ -22,5 +22,9 @@ returns-4 : tie.Need-returns-4
 unfolding kindOf
 returns-4 c = search tests
 
+returns-5 : tie.Need-returns-5
+unfolding kindOf
+returns-5 c = search tests
+
 pub kind-of-spec : {M : Type 1} → statement M
-kind-of-spec = tie.close (tie.spec returns returns-2 returns-3 returns-4)
+kind-of-spec = tie.close (tie.spec returns returns-2 returns-3 returns-4 returns-5)

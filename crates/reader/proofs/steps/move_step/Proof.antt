@@ -1,8 +1,10 @@
 -- `move_step` meets its contract: each return is the first test that holds. Assumes nothing.
+use mathlib.Core.Path.{sym, _∙_}
 use native.Mathlib.Omega.{arith}
+use borrow.Author.Tests.{not-false}
 use Rattle.base.proofs.Picks.{tests, calls}
 use Rattle.book.specs.Parse.{moveOf}
-use Rattle.reader.proofs.Laws.{index-small}
+use Rattle.reader.proofs.Laws.{index-small, move-goes}
 use borrow.Author.Needs.{needs}
 use Rattle.reader.proofs.steps.move_step.Statement.{statement}
 use Rattle.reader.proofs.steps.move_step.Tie as tie
@@ -65,12 +67,17 @@ add-t10 c =
     omega (arith, index-small (a .byte-at .result) (st .m) (c .before .before .before .before .before .before .byte-at2 .result) (omega arith) (omega arith) (omega arith))
 
 returns-5 : tie.Need-returns-5
-unfolding moveOf
 returns-5 c =
     let u = c .before .before .before .before .before in
     let b = u .before in
     let a = b .before in
-    (simp (← a .byte-at .ensures .0, ← b .byte-at2 .ensures .0, ← u .u64-at .ensures) (search (tests, calls) depth 20), search needs)
+    let f = c .before .before .before .before in
+    let start = a .before .before .before .before .before in
+    let g = start .args in (
+      move-goes (g .st) (g .body .now) (a .byte-at .result) (b .byte-at2 .result) (u .u64-at .result) (a .byte-at .ensures .0) (b .byte-at2 .ensures .0) (u .u64-at .ensures) (omega arith) (omega arith)
+          (sym (f .move-fine .ensures) ∙ not-false _ (c .before .before .before .if3 .left)) (c .if4 .left),
+      record { n-high = start .pre .n-high; m-high = start .pre .m-high; few = start .pre .few },
+    )
 
 pub move-step-spec : {M : Type 1} → statement M
 move-step-spec =

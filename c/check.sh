@@ -56,7 +56,7 @@ bytes_of() { od -An -v -tx1 "$1" | tr -d ' \n'; }
 
 part='names'
 c/names.sh "$archive"
-say '8 names'
+say '9 names'
 
 part='constant tables'
 if [ -x target/bin/tables ]; then

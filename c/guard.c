@@ -20,7 +20,7 @@
 #include <sys/wait.h>
 #include <unistd.h>
 
-enum { PAGE = 4096, BOOK_ROOM = 10 * PAGE, CALLS = 8, CODES = 14 };
+enum { PAGE = 4096, BOOK_ROOM = 10 * PAGE, CALLS = 9, CODES = 14 };
 
 /* What assembling is lent for the legs, and whether a page. */
 enum { AS_BYTES, AS_STRUCTS, ON_PAPER, FORMS };
@@ -200,8 +200,9 @@ static void count(size_t call, uint64_t code, int on_read_only) {
     refusals_repeated += on_read_only != 0;
 }
 
-/* The reading of the book at hand. */
-static rollback_reading device;
+/* What was answered for the book at hand: by reading, by checking, and to the last forecast. */
+static rollback_checking device, checked;
+static rollback_forecasted forecast;
 
 /* Lends what reading fills; read-only where it is to stay. */
 static void lend_for_book(lengths l, int at_end, int untouched) {
@@ -228,24 +229,70 @@ static void wrote_book(uint64_t code, copy *tables, copy *all_slots, copy *all_w
     }
 }
 
+/* As checking gives it. Reading makes no units. */
+static rollback_checking read_book(lengths l) {
+    rollback_reading r = rollback_read(pointer(&book), book.bytes, pointer(&table), l.table, pointer(&slots), l.slots,
+                                       pointer(&weights), l.weights);
+    rollback_checking c;
+    c.code = r.code;
+    c.place = r.place;
+    c.n = r.n;
+    c.m = r.m;
+    c.items = r.items;
+    c.units = 0;
+    return c;
+}
+
+static rollback_checking check_book(lengths l) {
+    return rollback_check(pointer(&book), book.bytes, pointer(&table), l.table, pointer(&slots), l.slots,
+                          pointer(&weights), l.weights);
+}
+
 /* Reading or checking, once or for the second time after the answer `first`. */
-static rollback_reading reading(size_t call, lengths l, int at_end, const rollback_reading *first) {
+static rollback_checking reading(size_t call, lengths l, int at_end, const rollback_checking *first) {
     static copy tables, all_slots, all_weights;
-    rollback_reading r;
+    rollback_checking r;
     int second = first != NULL, untouched = second && !leaves_the_book(first->code);
     lend_for_book(l, at_end, untouched);
     now = call == 0 ? "rollback_read" : "rollback_check";
-    r = (call == 0 ? rollback_read : rollback_check)(pointer(&book), book.bytes, pointer(&table), l.table,
-                                                     pointer(&slots), l.slots, pointer(&weights), l.weights);
+    r = (call == 0 ? read_book : check_book)(l);
     count(call, r.code, untouched);
     if (second && (r.code != first->code || r.place != first->place || r.n != first->n || r.m != first->m ||
-                   r.items != first->items))
+                   r.items != first->items || r.units != first->units))
         fail("gave another answer the second time");
     if (r.code != 0 && (r.n != 0 || r.m != 0 || r.items != 0))
         fail("refused with numbers that are not 0");
-    if (call == 0)
-        device = r;
+    if (!leaves_the_book(r.code) && r.units != 0)
+        fail("made units though it judged no item");
+    *(call == 0 ? &device : &checked) = r;
     wrote_book(r.code, &tables, &all_slots, &all_weights, second);
+    return r;
+}
+
+/* A forecast for runs of so many commands, after reading and checking. It is lent nothing. */
+static rollback_forecasted forecasting(uint64_t commands, const rollback_forecasted *first) {
+    rollback_forecasted r;
+    now = "rollback_forecast";
+    r = rollback_forecast(pointer(&book), book.bytes, commands);
+    count(2, r.code, 0);
+    if (first != NULL && (r.code != first->code || r.place != first->place || r.units != first->units ||
+                          r.plan_bytes != first->plan_bytes || r.legs != first->legs))
+        fail("gave another answer the second time");
+    if (r.code != 0 && (r.units != 0 || r.plan_bytes != 0 || r.legs != 0))
+        fail("refused with numbers that are not 0");
+    if (r.code == 0 && (commands > 32 || r.place != 0 || r.units > 65536 || r.plan_bytes > 8 * commands ||
+                        r.legs != commands))
+        fail("gave numbers that no book has");
+    if (r.code == ROLLBACK_E_RUN && (commands <= 32 || r.place != 0))
+        fail("gave a wrong code 9");
+    if (device.code == 0 && r.code != 0 && r.code != ROLLBACK_E_RUN)
+        fail("refused a book that reading takes");
+    if (device.code != 0 && device.code != ROLLBACK_E_SHORT_BUFFER &&
+        (r.code != device.code || r.place != device.place))
+        fail("gave another code or place than reading");
+    if (r.code == 0 && (checked.code == 0 ? r.units != checked.units : r.units < checked.units))
+        fail("gave fewer units than checking made, or more for an accepted book");
+    forecast = r;
     return r;
 }
 
@@ -292,7 +339,7 @@ static rollback_paged assembling(int form, lengths l, int at_end, const rollback
         p = rollback_page(pointer(&book), book.bytes, pointer(&run), run.bytes, pointer(&table), l.table,
                           pointer(&slots), l.slots, pointer(&weights), l.weights, pointer(&plan), l.plan,
                           pointer(&legs), l.legs, pointer(&paper), l.paper);
-    count(2 + (size_t)form, r->code, refused);
+    count(3 + (size_t)form, r->code, refused);
     look(r->fewest, sizeof r->fewest);
     if (second && (r->code != before->code || r->place != before->place || r->commands != before->commands ||
                    r->legs != before->legs || r->sum != before->sum ||
@@ -302,6 +349,8 @@ static rollback_paged assembling(int form, lengths l, int at_end, const rollback
         fail("refused with counts or a sum that are not 0");
     if (r->code == 0 && r->sum != plan_sum(r->commands))
         fail("gave a sum that is not that of its commands' weights");
+    if (r->code == 0 && (forecast.code != 0 || r->commands > forecast.plan_bytes || r->legs > forecast.legs))
+        fail("gave a plan that is longer than the forecast");
     if (p.length != (form == ON_PAPER ? r->legs * ROLLBACK_PAGE_LINE_LEN : 0))
         fail("gave a length that is not that of its legs' lines");
     wrote_book(r->code, &tables, &all_slots, &all_weights, second);
@@ -322,7 +371,7 @@ static rollback_writing writing(uint64_t n, uint64_t m, uint64_t items, lengths 
     now = "rollback_write";
     r = rollback_write(n, m, items, pointer(&write_table), l.write_table, pointer(&write_slots), l.write_slots,
                        pointer(&write_weights), l.write_weights, pointer(&out), l.out);
-    count(5, r.code, refused);
+    count(6, r.code, refused);
     if (second && (r.code != first->code || r.place != first->place || r.length != first->length))
         fail("gave another answer the second time");
     if (r.code != 0 && r.length != 0)
@@ -385,10 +434,11 @@ static void all_calls(const uint8_t *book_bytes, size_t book_length, const uint8
     static uint16_t weight_of[ROLLBACK_WEIGHTS_LEN];
     static uint64_t numbers[3];
     lengths l = some_lengths();
-    rollback_reading r;
+    rollback_checking r;
+    rollback_forecasted some, of_run;
     rollback_paged a;
     rollback_writing w;
-    uint64_t n, m, all;
+    uint64_t n, m, all, commands = below(3) ? below(33) : some_number(32);
     int at_end = (int)below(2), form;
     give(&book, book_bytes, book_length, book_length, at_end);
     give(&run, run_bytes, run_length, run_length, at_end);
@@ -404,6 +454,13 @@ static void all_calls(const uint8_t *book_bytes, size_t book_length, const uint8
     reading(0, l, !at_end, &r);
     r = reading(1, l, at_end, NULL);
     reading(1, l, !at_end, &r);
+
+    /* For some number of commands and for the run's own; the second time with the book elsewhere. */
+    some = forecasting(commands, NULL);
+    of_run = forecasting(run_length > 4 ? run_bytes[4] : 0, NULL);
+    give(&book, book_bytes, book_length, book_length, !at_end);
+    forecasting(commands, &some);
+    forecasting(run_length > 4 ? run_bytes[4] : 0, &of_run);
     for (form = AS_BYTES; form < FORMS; form++) {
         a = assembling(form, l, at_end, NULL);
         assembling(form, l, !at_end, &a);
@@ -426,8 +483,8 @@ static void all_calls(const uint8_t *book_bytes, size_t book_length, const uint8
     w = writing(n, m, all, l, at_end, NULL);
     writing(n, m, all, l, !at_end, &w);
 
-    looking_up(6, "rollback_ridge", rollback_ridge, 64, 16, 1);
-    looking_up(7, "rollback_portable", rollback_portable, 32, 12, 0);
+    looking_up(7, "rollback_ridge", rollback_ridge, 64, 16, 1);
+    looking_up(8, "rollback_portable", rollback_portable, 32, 12, 0);
 }
 
 /* That the pages do what they are for: each of these must end by a fault. */
@@ -453,9 +510,9 @@ static void try_pages(void) {
 }
 
 int main(int argc, char **argv) {
-    static const char *const names[CALLS] = {"read", "check", "assemble", "assemble_legs",
+    static const char *const names[CALLS] = {"read", "check", "forecast", "assemble", "assemble_legs",
                                              "page", "write", "ridge", "portable"};
-    static const unsigned has[CALLS] = {0x20FF, 0x31FF, 0x3FFF, 0x3FFF, 0x3FFF, 0x00A3, 0x0021, 0x0021};
+    static const unsigned has[CALLS] = {0x20FF, 0x31FF, 0x22FD, 0x3FFF, 0x3FFF, 0x3FFF, 0x00A3, 0x0021, 0x0021};
     static uint8_t book_bytes[BOOK_ROOM], run_bytes[BOOK_ROOM];
     file cases;
     pair *pairs;

@@ -19,6 +19,15 @@ typedef char plain_results[sizeof(rollback_reading) == 40 && sizeof(rollback_wri
                                    sizeof(rollback_lookup) == 24
                                ? 1
                                : -1];
+typedef char checking_result[sizeof(rollback_checking) == 48 && offsetof(rollback_checking, items) == 32 &&
+                                     offsetof(rollback_checking, units) == 40
+                                 ? 1
+                                 : -1];
+typedef char forecast_result[sizeof(rollback_forecasted) == 40 && offsetof(rollback_forecasted, units) == 16 &&
+                                     offsetof(rollback_forecasted, plan_bytes) == 24 &&
+                                     offsetof(rollback_forecasted, legs) == 32
+                                 ? 1
+                                 : -1];
 typedef char assembly_result[sizeof(rollback_assembly) == 176 && offsetof(rollback_assembly, sum) == 32 &&
                                      offsetof(rollback_assembly, fewest) == 40
                                  ? 1
@@ -57,8 +66,13 @@ int main(void) {
     static const uint8_t small[] = {2, 0, 1, 0, 1, 1, 2, 0, 5, 0, 188, 2, 10, 0, 2,
                                     0, 0, 0, 1, 0, 0, 0, 0, 0, 0, 0, 0, 0, 9, 9};
     static const uint8_t run[] = {9, 0, 4, 0, 0, 1, 0, 0, 0, 0, 0, 0, 0};
+    /* That device without the weight, and an item of one forward command and two reverse ones. */
+    static const uint8_t with_item[] = {2, 0, 1, 0, 1, 1, 10, 0, 2, 0, 0, 0, 1, 0, 0, 0, 0, 0, 0, 0, 21, 0, 3,
+                                        0, 1, 2, 0, 0, 0, 1, 0, 0, 0, 0, 0, 0, 0, 1, 0, 0, 0, 0, 0, 0, 0};
     char version[32];
-    rollback_reading read, checked;
+    rollback_reading read;
+    rollback_checking checked;
+    rollback_forecasted longest, too_long;
     rollback_assembly bytes, in_structs;
     rollback_paged paged;
     rollback_writing written;
@@ -81,17 +95,31 @@ int main(void) {
     written = rollback_write(1, 1, 0, table, ROLLBACK_TABLE_LEN, slots, ROLLBACK_SLOTS_LEN,
                              weights, ROLLBACK_WEIGHTS_LEN, book, ROLLBACK_BOOK_LEN);
     if (read.code != ROLLBACK_E_DONE || read.n != 1 || read.m != 1 || read.items != 0 || weights[0] != 700 ||
-        weights[1] != 0 || checked.code != read.code || bytes.code != ROLLBACK_E_DONE || bytes.sum != 0 ||
-        bytes.fewest[0] != 0 || bytes.fewest[1] != ROLLBACK_NONE || in_structs.code != bytes.code ||
+        weights[1] != 0 || checked.code != read.code || checked.units != 0 || bytes.code != ROLLBACK_E_DONE ||
+        bytes.sum != 0 || bytes.fewest[0] != 0 || bytes.fewest[1] != ROLLBACK_NONE || in_structs.code != bytes.code ||
         paged.assembly.code != bytes.code || paged.assembly.fewest[0] != 0 || paged.length != 0 || page[0] != 0 ||
         written.code != ROLLBACK_E_DONE || written.length != 26 || memcmp(book, small, 26) != 0 ||
         rollback_ridge(0, 13).mask != 15 || rollback_portable(16, 5).mask != 2162688) {
         printf("a call gives a wrong answer\n");
         wrong = 1;
     }
+    checked = rollback_check(with_item, sizeof with_item, table, ROLLBACK_TABLE_LEN, slots, ROLLBACK_SLOTS_LEN,
+                             weights, ROLLBACK_WEIGHTS_LEN);
+    longest = rollback_forecast(with_item, sizeof with_item, 32);
+    too_long = rollback_forecast(with_item, sizeof with_item, 33);
+    if (checked.code != ROLLBACK_E_DONE || checked.items != 1 || checked.units != 3 ||
+        longest.code != ROLLBACK_E_DONE || longest.place != 0 || longest.units != 3 || longest.plan_bytes != 64 ||
+        longest.legs != 32 || too_long.code != ROLLBACK_E_RUN || too_long.place != 0 || too_long.units != 0 ||
+        too_long.plan_bytes != 0 || too_long.legs != 0 || rollback_forecast(small, 26, 7).plan_bytes != 0 ||
+        rollback_forecast(small, 28, 33).place != 26 || rollback_forecast(NULL, 0, 0).code != ROLLBACK_E_CUT_OFF) {
+        printf("checking or a forecast gives a wrong answer\n");
+        wrong = 1;
+    }
 
     expect(rollback_message(ROLLBACK_E_DONE), "done");
     expect(rollback_message(ROLLBACK_E_TOO_MANY_ITEMS), "a book has at most 64 items");
+    expect(rollback_message(ROLLBACK_E_RUN),
+           "a run is one record, has at most 32 commands, and only commands and states of its device");
     expect(rollback_message(ROLLBACK_E_NO_CHAIN), "no items of the book lead from the run's end back to its start");
     expect(rollback_message(ROLLBACK_E_NOT_EFFECTIVE),
            "the item can never be used: its forward commands lead from no start in psi to an end in phi");

@@ -34,8 +34,13 @@ static void read_book(void) {
 }
 
 static void check(void) {
-    rollback_reading r = rollback_check(book.bytes, book.length, table, ROLLBACK_TABLE_LEN, slots, ROLLBACK_SLOTS_LEN,
-                                        weights, ROLLBACK_WEIGHTS_LEN);
+    rollback_checking r = rollback_check(book.bytes, book.length, table, ROLLBACK_TABLE_LEN, slots,
+                                         ROLLBACK_SLOTS_LEN, weights, ROLLBACK_WEIGHTS_LEN);
+    code = r.code;
+}
+
+static void forecast(void) {
+    rollback_forecasted r = rollback_forecast(book.bytes, book.length, 32);
     code = r.code;
 }
 
@@ -115,6 +120,7 @@ static const struct {
 } calls[] = {
     {"rollback_read", read_book, ROLLBACK_READ_STACK},
     {"rollback_check", check, ROLLBACK_CHECK_STACK},
+    {"rollback_forecast", forecast, ROLLBACK_FORECAST_STACK},
     {"rollback_assemble", assemble, ROLLBACK_ASSEMBLE_STACK},
     {"rollback_assemble_legs", assemble_legs, ROLLBACK_ASSEMBLE_LEGS_STACK},
     {"rollback_page", lay_out, ROLLBACK_PAGE_STACK},

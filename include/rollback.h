@@ -30,9 +30,9 @@ extern "C" {
 #endif
 
 /* Of this header; the Rust crate has the same. */
-#define ROLLBACK_VERSION "0.6.0"
+#define ROLLBACK_VERSION "0.7.0"
 #define ROLLBACK_VERSION_MAJOR 0
-#define ROLLBACK_VERSION_MINOR 6
+#define ROLLBACK_VERSION_MINOR 7
 #define ROLLBACK_VERSION_PATCH 0
 
 /* The least lengths of lent buffers, in elements. A shorter one is refused with code 1. */
@@ -66,6 +66,7 @@ extern "C" {
  */
 #define ROLLBACK_READ_STACK 1024
 #define ROLLBACK_CHECK_STACK 2048
+#define ROLLBACK_FORECAST_STACK 512
 #define ROLLBACK_ASSEMBLE_STACK 4096
 #define ROLLBACK_ASSEMBLE_LEGS_STACK 4096
 #define ROLLBACK_PAGE_STACK 4096
@@ -80,7 +81,7 @@ extern "C" {
  * The codes. The place is the offset of the faulty record's first byte for 2 to 8, 12 and 13 in a book, and
  * 0 for the others; rollback_write has places of its own. The order of judging is 1; then, record by record,
  * 2, 3, 7, 4, 5, then 6 or 13, the first faulty record deciding; then, item by item, 8 or 12, the first wrong
- * item deciding; then 9, 10, 11.
+ * item deciding; then 9, 10, 11. A forecast judges no item.
  */
 enum {
     ROLLBACK_E_DONE = 0,
@@ -92,17 +93,34 @@ enum {
     ROLLBACK_E_NOT_RISING = 6,       /* a move doesn't rise */
     ROLLBACK_E_TOO_MANY_ITEMS = 7,   /* a 65th item */
     ROLLBACK_E_NOT_REVERSE_PLAN = 8, /* an item is no conditional reverse plan */
-    ROLLBACK_E_RUN = 9,              /* the run isn't exactly one record, or a command or mask is outside m or n */
+    ROLLBACK_E_RUN = 9,              /* the run isn't exactly one record, or a command or mask is outside m or n;
+                                        a forecast for over 32 commands */
     ROLLBACK_E_NO_HISTORY = 10,      /* nothing can have happened that fits the run */
     ROLLBACK_E_NO_CHAIN = 11,        /* no items lead from the run's end back to its start */
     ROLLBACK_E_NOT_EFFECTIVE = 12,   /* an item can never be used: a conditional reverse plan, but not effective */
     ROLLBACK_E_ALL_ONES = 13         /* a weights record in which every weight is 1 */
 };
 
-/* From reading and checking: n states, m commands, the number of items; all three 0 on a refusal. */
+/* From reading: n states, m commands, the number of items; all three 0 on a refusal. */
 typedef struct {
     uint64_t code, place, n, m, items;
 } rollback_reading;
+
+/*
+ * From checking: the same, and the units made, on 8 and 12 too; 0 on any other refusal. One unit is one
+ * command applied to one set of states, an empty one too.
+ */
+typedef struct {
+    uint64_t code, place, n, m, items, units;
+} rollback_checking;
+
+/*
+ * From a forecast: the units of checking an accepted book, and the plan bytes and legs that no plan for a run
+ * of i commands exceeds; all three 0 on a refusal.
+ */
+typedef struct {
+    uint64_t code, place, units, plan_bytes, legs;
+} rollback_forecasted;
 
 /*
  * From assembling: the numbers of commands and legs, and the sum of the commands' weights, all 0 on a
@@ -159,14 +177,36 @@ rollback_reading rollback_read(
  * start in psi to an end in phi.
  *
  * Takes the book; lends table, slots and weights. Codes: 0 to 8, 12, 13.
- * 0, 8, 12    all three as after reading with code 0; with 8 and 12 the three numbers are 0 all the same.
+ * 0, 8, 12    all three as after reading with code 0; with 8 and 12 n, m and items are 0 all the same.
  * 1 to 7, 13  all untouched.
+ *
+ * It takes the items as they stand, the starts of each lowest first, for each start the forward commands and
+ * then the reverse ones on all its ends in phi together. The units:
+ * 0           the sum over items of (states in psi) * (k + r), at most 65,536.
+ * 8           those up to and including the first reverse command that some state can't carry out, or, where a
+ *             run ends outside its start, that start's last command.
+ * 12          those up to that item's end.
+ * 1 to 7, 13  0.
  */
-rollback_reading rollback_check(
+rollback_checking rollback_check(
     const uint8_t *book, size_t book_len,
     uint64_t *table, size_t table_len,
     uint8_t *slots, size_t slots_len,
     uint16_t *weights, size_t weights_len);
+
+/*
+ * Forecasts how much checking a book will take, and how long a plan for a run of i commands can be. It
+ * applies no command and judges no item.
+ *
+ * Takes the book and i; lends nothing. Codes: 0, 2 to 7, 9, 13.
+ * 0           units: the sum over items of (states in psi) * (k + r), at most 65,536. Checking makes as many
+ *             where it accepts the book, and never more.
+ *             plan_bytes: i times the largest r of an item, 0 without items; legs: i. Assembling gives no more
+ *             `commands` and `legs` for any run of i commands.
+ * 2 to 7, 13  as reading, at the same place.
+ * 9           i is over 32; after the others.
+ */
+rollback_forecasted rollback_forecast(const uint8_t *book, size_t book_len, uint64_t i);
 
 /*
  * Checks a book and assembles from its items the plan that undoes a run: the chain whose commands' weights

@@ -15,7 +15,7 @@
 #define ROLLBACK_INLINE static
 #endif
 
-/* What a code of reading, checking, assembling, of the page or of a lookup means. */
+/* What a code of reading, checking, assembling, of a forecast, of the page or of a lookup means. */
 ROLLBACK_INLINE const char *rollback_message(uint64_t code) {
     static const char *const messages[] = {
         "done",
@@ -27,7 +27,7 @@ ROLLBACK_INLINE const char *rollback_message(uint64_t code) {
         "the move doesn't rise: by state, then command, it must come after the move before it",
         "a book has at most 64 items",
         "the reverse commands can get stuck, or end elsewhere than in the start",
-        "this is not one record of a run, or it has a command or state that the device lacks",
+        "a run is one record, has at most 32 commands, and only commands and states of its device",
         "nothing that the device can do fits what was sent and heard",
         "no items of the book lead from the run's end back to its start",
         "the item can never be used: its forward commands lead from no start in psi to an end in phi",

@@ -73,13 +73,18 @@ const CHECK: Pair = Pair {
 };
 
 #[rustfmt::skip]
-const PAIRS: [Pair; 6] = [
+const PAIRS: [Pair; 7] = [
     Pair {
         name: "read",
         verified: |l| calls::read(&l.book, &mut l.table, &mut l.slots, &mut l.weights).code,
         plain: |l| rollback_plain::read(&l.book, &mut l.table, &mut l.slots, &mut l.weights).code,
     },
     CHECK,
+    Pair {
+        name: "forecast",
+        verified: |l| black_box(calls::forecast(&l.book, 32)).code,
+        plain: |l| black_box(rollback_plain::forecast(&l.book, 32)).code,
+    },
     Pair {
         name: "assemble",
         verified: |l| calls::assemble(

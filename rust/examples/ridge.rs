@@ -1,8 +1,9 @@
 //! A book for the ridge repeater, from its first mistake to a plan: ridge [FOLDER]
 //!
 //! Writes a book of five items, one of them wrong, and the commands' weights; prints the refusal;
-//! repairs the item; assembles the plan that undoes a run. With FOLDER, leaves there the book and the
-//! run as the program takes them (`book.bin`, `run.bin`), and the book before its repair (`wrong.bin`).
+//! repairs the item; forecasts the check and makes it; assembles the plan that undoes a run. With
+//! FOLDER, leaves there the book and the run as the program takes them (`book.bin`, `run.bin`), and
+//! the book before its repair (`wrong.bin`).
 //!
 //! A state is channel + 4 × power + 16 × mode, each 0 to 3; the modes are standby, relay, beacon,
 //! locked. docs/FORMAT.md has the sixteen commands.
@@ -109,10 +110,23 @@ fn main() -> Result<(), Box<dyn Error>> {
     items[2].0.reverse = &[8, 1, 9];
     println!("Repaired: to standby, where a channel command takes, and back to relay");
     print_item(2, &items[2]);
-    let right = Book::check(&book(&items)?)?;
-    println!("Accepted: all {} items", right.items().len());
-
+    let repaired = book(&items)?;
     let (sent, sightings) = ([9, 14, 2], [1 << 1, ALL, ALL, ALL]);
+    let forecast = rollback::forecast(&repaired, sent.len())?;
+    println!(
+        "Forecast: {} units of checking; a plan for {} commands sends at most {}, in at most {} legs",
+        forecast.units,
+        sent.len(),
+        forecast.plan_bytes,
+        forecast.legs
+    );
+    let right = Book::check(&repaired)?;
+    println!(
+        "Accepted: all {} items, after {} units",
+        right.items().len(),
+        right.units()
+    );
+
     println!("The run:");
     println!("  point 0: {}", heard(sightings[0]));
     for (i, number) in sent.into_iter().enumerate() {

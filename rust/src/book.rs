@@ -51,9 +51,6 @@ impl Item<'_> {
     }
 }
 
-/// Reading or checking.
-type Call = fn(&[u8], &mut [u64], &mut [u8], &mut [u16]) -> Reading;
-
 /// A book that was read: what the device's commands do in its states, what they weigh, and the
 /// items. Whether these are accepted is not known: see [`CheckedBook`].
 #[derive(Clone, Debug, PartialEq, Eq)]
@@ -90,13 +87,31 @@ impl Book {
     /// assert_eq!(fault.to_string(), "record 0 (at 0): the book ends before this record does (code 2)");
     /// let book = Book::check(&[2, 0, 1, 0, 3, 2])?;
     /// assert_eq!((book.states(), book.commands(), book.items().count()), (3, 2, 0));
+    /// assert_eq!(book.units(), 0); // there was no item to judge
     /// # Ok::<(), Fault>(())
     /// ```
     pub fn check(bytes: &[u8]) -> Result<CheckedBook, Fault> {
-        Book::by(calls::check, bytes).map(CheckedBook)
+        let mut units = 0;
+        let call = |bytes: &[u8], table: &mut [u64], slots: &mut [u8], weights: &mut [u16]| {
+            let r = calls::check(bytes, table, slots, weights);
+            units = r.units;
+            Reading {
+                code: r.code,
+                place: r.place,
+                n: r.n,
+                m: r.m,
+                items: r.items,
+            }
+        };
+        let book = Book::by(call, bytes)?;
+        Ok(CheckedBook { book, units })
     }
 
-    fn by(call: Call, bytes: &[u8]) -> Result<Book, Fault> {
+    /// The book by reading or checking.
+    fn by<Call>(call: Call, bytes: &[u8]) -> Result<Book, Fault>
+    where
+        Call: FnOnce(&[u8], &mut [u64], &mut [u8], &mut [u16]) -> Reading,
+    {
         let mut table = vec![0; calls::TABLE_LEN];
         let mut slots = vec![0; calls::SLOTS_LEN];
         let mut weights = vec![0; calls::WEIGHTS_LEN];
@@ -167,9 +182,19 @@ impl Book {
 
 /// A book in which every item is accepted. Only [`Book::check`] makes one; it is used as a [`Book`].
 #[derive(Clone, Debug, PartialEq, Eq)]
-pub struct CheckedBook(Book);
+pub struct CheckedBook {
+    book: Book,
+    units: u64,
+}
 
 impl CheckedBook {
+    /// The units that checking made, as [`forecast`](crate::forecast) gives them: one is one command
+    /// applied to one set of states.
+    #[must_use]
+    pub fn units(&self) -> u64 {
+        self.units
+    }
+
     /// The plan that undoes a run, as [`plan`] gives it.
     ///
     /// # Errors
@@ -183,7 +208,7 @@ impl Deref for CheckedBook {
     type Target = Book;
 
     fn deref(&self) -> &Book {
-        &self.0
+        &self.book
     }
 }
 

@@ -31,7 +31,7 @@ pub const RUN_LEN: usize = 301;
 /// Points of the largest run.
 pub const POINTS_LEN: usize = 33;
 
-/// What reading and checking answer.
+/// What reading answers.
 #[repr(C)]
 #[derive(Clone, Copy, Debug, PartialEq, Eq)]
 pub struct Reading {
@@ -45,6 +45,40 @@ pub struct Reading {
     pub m: u64,
     /// Items.
     pub items: u64,
+}
+
+/// What checking answers.
+#[repr(C)]
+#[derive(Clone, Copy, Debug, PartialEq, Eq)]
+pub struct Checking {
+    /// 0, or why the book was refused.
+    pub code: u64,
+    /// Where.
+    pub place: u64,
+    /// States.
+    pub n: u64,
+    /// Commands.
+    pub m: u64,
+    /// Items.
+    pub items: u64,
+    /// The units made, with 8 and 12 too: a unit is one command applied to one set of states.
+    pub units: u64,
+}
+
+/// What a forecast answers.
+#[repr(C)]
+#[derive(Clone, Copy, Debug, PartialEq, Eq)]
+pub struct Forecasted {
+    /// 0, or why there is no forecast.
+    pub code: u64,
+    /// Where.
+    pub place: u64,
+    /// The units of checking an accepted book; checking never makes more.
+    pub units: u64,
+    /// No plan for a run of i commands has more commands.
+    pub plan_bytes: u64,
+    /// No plan for a run of i commands has more legs.
+    pub legs: u64,
 }
 
 /// What assembling answers.
@@ -124,7 +158,7 @@ pub struct Leg {
 /// The archive's names, as in `include/rollback.h`.
 #[rustfmt::skip]
 mod sys {
-    use super::{Assembly, Leg, Lookup, Paged, Reading, Writing};
+    use super::{Assembly, Checking, Forecasted, Leg, Lookup, Paged, Reading, Writing};
 
     extern "C" {
         pub fn rollback_read(
@@ -138,7 +172,8 @@ mod sys {
             table: *mut u64, table_len: usize,
             slots: *mut u8, slots_len: usize,
             weights: *mut u16, weights_len: usize,
-        ) -> Reading;
+        ) -> Checking;
+        pub fn rollback_forecast(book: *const u8, book_len: usize, i: u64) -> Forecasted;
         pub fn rollback_assemble(
             book: *const u8, book_len: usize,
             run: *const u8, run_len: usize,
@@ -200,7 +235,7 @@ pub fn read(book: &[u8], table: &mut [u64], slots: &mut [u8], weights: &mut [u16
 /// Reads a book and checks its items. Codes 0 to 8, 12, 13.
 #[must_use]
 #[rustfmt::skip]
-pub fn check(book: &[u8], table: &mut [u64], slots: &mut [u8], weights: &mut [u16]) -> Reading {
+pub fn check(book: &[u8], table: &mut [u64], slots: &mut [u8], weights: &mut [u16]) -> Checking {
     unsafe {
         sys::rollback_check(
             book.as_ptr(), book.len(),
@@ -209,6 +244,13 @@ pub fn check(book: &[u8], table: &mut [u64], slots: &mut [u8], weights: &mut [u1
             weights.as_mut_ptr(), weights.len(),
         )
     }
+}
+
+/// Forecasts how much checking a book will take, and how long a plan for a run of i commands can be.
+/// Codes 0, 2 to 7, 9, 13.
+#[must_use]
+pub fn forecast(book: &[u8], i: u64) -> Forecasted {
+    unsafe { sys::rollback_forecast(book.as_ptr(), book.len(), i) }
 }
 
 /// Checks a book and assembles the plan that undoes a run, its legs as bytes. Codes 0 to 13.

@@ -4,7 +4,7 @@ use core::fmt;
 use crate::calls::POINTS_LEN;
 use crate::{record_at, Record, NONE};
 
-/// Why a book or a run was refused: a variant for each code, in order, from 1 to 13.
+/// Why a book, a run or a forecast was refused: a variant for each code, in order, from 1 to 13.
 ///
 /// Printed, it says where and what: `item 1 (record at 129): a field is outside its range (code 5)`.
 #[derive(Clone, Copy, Debug, PartialEq, Eq)]
@@ -26,7 +26,8 @@ pub enum Fault {
     TooManyItems(Record),
     /// 8: an item is no conditional reverse plan, the first wrong one.
     NotReversePlan(Record),
-    /// 9: the run isn't exactly one record, or a command or mask is outside m or n.
+    /// 9: the run isn't exactly one record, or a command or mask is outside m or n; a forecast for
+    /// over 32 commands.
     Run,
     /// 10: nothing can have happened that fits the run.
     NoHistory,
@@ -131,7 +132,7 @@ impl fmt::Display for Fault {
                 "the reverse commands can get stuck, or end elsewhere than in the start"
             }
             Fault::Run => {
-                "this is not one record of a run, or it has a command or state that the device lacks"
+                "a run is one record, has at most 32 commands, and only commands and states of its device"
             }
             Fault::NoHistory => "nothing that the device can do fits what was sent and heard",
             Fault::NoChain { .. } => "no items of the book lead from the run's end back to its start",

@@ -11,8 +11,8 @@
 //! Sets of states are 64-bit masks: state s is in a set when bit s is 1. `docs/FORMAT.md` has the
 //! bytes of books and runs.
 //!
-//! Without the default feature `std` the crate needs `core` alone, and has [`calls`], [`Fault`],
-//! [`WriteFault`], [`record_at`], [`ridge`] and [`portable`].
+//! Without the default feature `std` the crate needs `core` alone, and has [`calls`], [`forecast`],
+//! [`Fault`], [`WriteFault`], [`record_at`], [`ridge`] and [`portable`].
 //!
 //! ```
 //! // A switch: command 0 turns it off, command 1 on. "Off" undoes "on" if it was off before.
@@ -46,6 +46,7 @@ extern crate std;
 mod book;
 pub mod calls;
 mod fault;
+mod forecast;
 #[cfg(feature = "std")]
 mod plan;
 mod record;
@@ -54,6 +55,7 @@ mod record;
 pub use book::{write, Book, CheckedBook, Item};
 pub use calls::Leg;
 pub use fault::{Fault, WriteFault};
+pub use forecast::{forecast, Forecast};
 #[cfg(feature = "std")]
 pub use plan::{plan, run, Plan};
 pub use record::{record_at, Kind, Record};
@@ -91,7 +93,6 @@ fn found(r: calls::Lookup) -> Option<u64> {
 }
 
 /// A count of the library as a size; it has none that doesn't fit.
-#[cfg(feature = "std")]
 fn size(count: u64) -> usize {
     usize::try_from(count).unwrap_or(usize::MAX)
 }

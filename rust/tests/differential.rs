@@ -64,7 +64,7 @@ impl After {
 /// All calls of a program on one input.
 macro_rules! answers {
     ($name:ident, $program:ident) => {
-        fn $name(input: &Input) -> [After; 8] {
+        fn $name(input: &Input) -> [After; 9] {
             let (book, run) = (&input.book, &input.run);
             let mut read = After::lent("read", input);
             let a = &mut read;
@@ -74,7 +74,14 @@ macro_rules! answers {
             let mut check = After::lent("check", input);
             let a = &mut check;
             let r = $program::check(book, &mut a.table, &mut a.slots, &mut a.weights);
-            a.result = vec![r.code, r.place, r.n, r.m, r.items];
+            a.result = vec![r.code, r.place, r.n, r.m, r.items, r.units];
+
+            let r = $program::forecast(book, input.i);
+            let forecast = After {
+                call: "forecast",
+                result: vec![r.code, r.place, r.units, r.plan_bytes, r.legs],
+                ..After::default()
+            };
 
             let mut assemble = After::lent("assemble", input);
             let a = &mut assemble;
@@ -134,6 +141,7 @@ macro_rules! answers {
             [
                 read,
                 check,
+                forecast,
                 assemble,
                 assemble_legs,
                 page,
@@ -150,9 +158,10 @@ answers!(by_plain_program, plain);
 const ALL: [u64; 14] = [0, 1, 2, 3, 4, 5, 6, 7, 8, 9, 10, 11, 12, 13];
 
 /// The calls with the codes that each has.
-const CODES: [(&str, &[u64]); 8] = [
+const CODES: [(&str, &[u64]); 9] = [
     ("read", &[0, 1, 2, 3, 4, 5, 6, 7, 13]),
     ("check", &[0, 1, 2, 3, 4, 5, 6, 7, 8, 12, 13]),
+    ("forecast", &[0, 2, 3, 4, 5, 6, 7, 9, 13]),
     ("assemble", &ALL),
     ("assemble_legs", &ALL),
     ("page", &ALL),
@@ -160,6 +169,33 @@ const CODES: [(&str, &[u64]); 8] = [
     ("ridge", &[0, 5]),
     ("portable", &[0, 5]),
 ];
+
+/// The units that checking made and the plan, against the forecast for runs as long as the one at hand.
+fn keeps_to_the_forecast(input: &Input, answers: &[After; 9]) {
+    let [read, check, _, assemble, ..] = answers;
+    let (seed, i) = (input.seed, input.run.get(4).map_or(0, |&i| u64::from(i)));
+    let f = verified::forecast(&input.book, i);
+    match (read.result[0], i) {
+        (0, 0..=32) => assert_eq!([f.code, f.place, f.legs], [0, 0, i], "seed {seed}"),
+        (0, _) => assert_eq!([f.code, f.place], [9, 0], "seed {seed}"),
+        // Reading's code 1 says nothing of the book.
+        (1, _) => {}
+        _ => assert_eq!([f.code, f.place], read.result[..2], "seed {seed}"),
+    }
+    assert!(f.units <= 65_536, "seed {seed}");
+
+    let (code, made) = (check.result[0], check.result[5]);
+    let units = verified::forecast(&input.book, 0).units;
+    match code {
+        0 => assert_eq!(made, units, "seed {seed}"),
+        8 | 12 => assert!(made <= units, "seed {seed}"),
+        _ => assert_eq!(made, 0, "seed {seed}"),
+    }
+    if let [0, _, commands, legs, ..] = assemble.result[..] {
+        assert!(commands <= f.plan_bytes, "seed {seed}");
+        assert!(legs <= f.legs, "seed {seed}");
+    }
+}
 
 fn number(name: &str, usual: u64) -> u64 {
     env::var(name).map_or(usual, |value| value.parse().expect(name))
@@ -184,6 +220,7 @@ fn the_library_answers_as_the_plain_program() {
             compared += 1;
             met[call][p.result[0] as usize] += 1;
         }
+        keeps_to_the_forecast(&given, &library);
         // What a call only reads stays too.
         assert!(
             given == before,

@@ -2,9 +2,13 @@
 
 use core::mem::{align_of, offset_of, size_of};
 
-use rollback::calls::{self, Assembly, Leg, Lookup, Paged, Reading, Writing, POINTS_LEN};
-use rollback::{record_at, Book, Fault, Item, Kind, WriteFault, NONE};
-use rollback_cases::{assemble_cases, book_cases, page_cases, q5_run, q_book};
+use rollback::calls::{
+    self, Assembly, Checking, Forecasted, Leg, Lookup, Paged, Reading, Writing, POINTS_LEN,
+};
+use rollback::{record_at, Book, Fault, Forecast, Item, Kind, WriteFault, NONE};
+use rollback_cases::{
+    assemble_cases, book_cases, forecast_cases, largest_book, page_cases, q5_run, q_book,
+};
 
 fn code_and_place(fault: &Fault) -> [u64; 2] {
     [
@@ -91,7 +95,14 @@ fn books() {
         let read = Book::read(&case.book);
         assert_eq!(answer(read.as_ref()), case.reading, "book {number}");
         let checked = Book::check(&case.book);
-        assert_eq!(answer(checked.as_deref()), case.checking, "book {number}");
+        assert_eq!(
+            answer(checked.as_deref()),
+            case.checking[..5],
+            "book {number}"
+        );
+        if let Ok(book) = checked {
+            assert_eq!(book.units(), case.checking[5], "book {number}");
+        }
         if let Ok(book) = read {
             assert_eq!(book.bytes(), case.book, "book {number}");
             let (n, m) = (book.states(), book.commands());
@@ -104,6 +115,54 @@ fn books() {
             assert_eq!(written, Ok(case.book.clone()), "book {number}");
         }
     }
+}
+
+#[test]
+fn forecasts() {
+    for (number, case) in forecast_cases().iter().enumerate() {
+        let commands = usize::try_from(case.i).unwrap_or(usize::MAX);
+        let answer = match rollback::forecast(&case.book, commands) {
+            Ok(f) => [0, 0, f.units, f.plan_bytes as u64, f.legs as u64],
+            Err(fault) => {
+                let [code, place] = code_and_place(&fault);
+                [code, place, 0, 0, 0]
+            }
+        };
+        assert_eq!(answer, case.answer, "case {number}");
+    }
+}
+
+/// Q's items have 3 × 3, 1 × 2, 3 × 3, 1 × 1 and 3 × 2 units.
+#[test]
+fn units() {
+    let forecast = |units, plan_bytes, legs| Forecast {
+        units,
+        plan_bytes,
+        legs,
+    };
+    let q = q_book();
+    assert_eq!(rollback::forecast(&q, 2), Ok(forecast(27, 4, 2)));
+    assert_eq!(rollback::forecast(&q, 0), Ok(forecast(27, 0, 0)));
+    assert_eq!(Book::check(&q).unwrap().units(), 27);
+    let largest = largest_book();
+    let most = rollback::forecast(&largest, 32);
+    assert_eq!(most, Ok(forecast(65_536, calls::PLAN_LEN, 32)));
+    assert_eq!(Book::check(&largest).unwrap().units(), 65_536);
+
+    let made = |book: &[u8]| {
+        let (mut table, mut slots) = ([0; calls::TABLE_LEN], [0; calls::SLOTS_LEN]);
+        let r = calls::check(book, &mut table, &mut slots, &mut [0; calls::WEIGHTS_LEN]);
+        [r.code, r.place, r.units]
+    };
+    // Item 1 with psi {0, 1}: 8, by the last command of the start 1.
+    let mut book = q.clone();
+    book[145] = 3;
+    assert_eq!(made(&book), [8, 129, 9 + 2 + 2]);
+    // Item 4 with psi {1, 2}: 12, after its reverse command on no state, for each of the two starts.
+    let mut book = q;
+    book[217] = 6;
+    assert_eq!(made(&book), [12, 201, 9 + 2 + 9 + 1 + 4]);
+    assert_eq!(made(&book[..224]), [2, 201, 0]);
 }
 
 #[test]
@@ -258,6 +317,18 @@ fn faults_have_words() {
         rollback::plan(&q_book(), &rollback::run(&[1], &[7, 7])).unwrap_err().to_string(),
         "no items of the book lead from the run's end back to its start (code 11); there are chains from points 0"
     );
+    // A run that is cut off, and a forecast for too long a one.
+    let words = "a run is one record, has at most 32 commands, and only commands and states of its device (code 9)";
+    assert_eq!(
+        rollback::plan(&q_book(), &q5_run()[..30])
+            .unwrap_err()
+            .to_string(),
+        words
+    );
+    assert_eq!(
+        rollback::forecast(&q_book(), 33).unwrap_err().to_string(),
+        words
+    );
     assert_eq!(
         Fault::NoHistory.to_string(),
         "nothing that the device can do fits what was sent and heard (code 10)"
@@ -291,6 +362,13 @@ fn a_plan_reads_as_lines() {
 #[test]
 fn results_are_laid_out_as_in_the_header() {
     assert_eq!(size_of::<Reading>(), 40);
+    assert_eq!(size_of::<Checking>(), 48);
+    assert_eq!(offset_of!(Checking, items), 32);
+    assert_eq!(offset_of!(Checking, units), 40);
+    assert_eq!(size_of::<Forecasted>(), 40);
+    assert_eq!(offset_of!(Forecasted, units), 16);
+    assert_eq!(offset_of!(Forecasted, plan_bytes), 24);
+    assert_eq!(offset_of!(Forecasted, legs), 32);
     assert_eq!(size_of::<Assembly>(), 176);
     assert_eq!(offset_of!(Assembly, sum), 32);
     assert_eq!(offset_of!(Assembly, fewest), 40);

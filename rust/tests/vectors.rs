@@ -1,26 +1,32 @@
 //! The cases that a second program has answered, against the library.
 
-use rollback::calls::{self, Leg, Lookup, Reading};
-use rollback_cases::{assemble_cases, book_cases, masks, page_cases, write_cases};
+use rollback::calls::{self, Leg, Lookup};
+use rollback_cases::{assemble_cases, book_cases, forecast_cases, masks, page_cases, write_cases};
 
 const FILL: u8 = 0xA5;
 
-/// Reading or checking.
-type Call = fn(&[u8], &mut [u64], &mut [u8], &mut [u16]) -> Reading;
+/// Reading or checking; gives the numbers of the answer.
+type Call = fn(&[u8], &mut [u64], &mut [u8], &mut [u16]) -> Vec<u64>;
+
+fn read(book: &[u8], table: &mut [u64], slots: &mut [u8], weights: &mut [u16]) -> Vec<u64> {
+    let r = calls::read(book, table, slots, weights);
+    vec![r.code, r.place, r.n, r.m, r.items]
+}
+
+fn check(book: &[u8], table: &mut [u64], slots: &mut [u8], weights: &mut [u16]) -> Vec<u64> {
+    let r = calls::check(book, table, slots, weights);
+    vec![r.code, r.place, r.n, r.m, r.items, r.units]
+}
 
 #[test]
 fn books() {
     let cases = book_cases();
     for (number, case) in cases.iter().enumerate() {
-        let judge = |call: Call, expected: [u64; 5]| {
+        let judge = |call: Call, expected: &[u64]| {
             let (mut table, mut slots) = (case.table.clone(), case.slots.clone());
             let mut weights = case.weights.clone();
-            let r = call(&case.book, &mut table, &mut slots, &mut weights);
-            assert_eq!(
-                [r.code, r.place, r.n, r.m, r.items],
-                expected,
-                "book {number}"
-            );
+            let answer = call(&case.book, &mut table, &mut slots, &mut weights);
+            assert_eq!(answer, expected, "book {number}");
             // Reading leaves what checking does, which the files give.
             assert_eq!(table[..40], case.table_after, "table of book {number}");
             assert_eq!(slots[..102], case.slots_after, "slots of book {number}");
@@ -33,11 +39,34 @@ fn books() {
                 "weights of book {number} past the stated length"
             );
         };
-        judge(calls::read, case.reading);
-        judge(calls::check, case.checking);
+        judge(read, &case.reading);
+        judge(check, &case.checking);
+        // What was made against what is forecast.
+        let made = case.checking[5];
+        let units = calls::forecast(&case.book, 0).units;
+        match case.checking[0] {
+            0 => assert_eq!(made, units, "book {number}"),
+            8 | 12 => assert!(made <= units, "book {number}"),
+            _ => assert_eq!(made, 0, "book {number}"),
+        }
     }
     println!("books: {} cases read and checked", cases.len());
     assert_eq!(cases.len(), 600);
+}
+
+#[test]
+fn forecasts() {
+    let cases = forecast_cases();
+    for (number, case) in cases.iter().enumerate() {
+        let r = calls::forecast(&case.book, case.i);
+        assert_eq!(
+            [r.code, r.place, r.units, r.plan_bytes, r.legs],
+            case.answer,
+            "case {number}"
+        );
+    }
+    println!("forecasts: {} cases", cases.len());
+    assert_eq!(cases.len(), 900);
 }
 
 #[test]
@@ -71,6 +100,12 @@ fn plans() {
         assert_eq!(r.fewest, case.fewest, "numbers of case {number}");
         assert_eq!(plan, plan_after, "plan of case {number}");
         assert_eq!(legs, legs_after, "legs of case {number}");
+        if r.code == 0 {
+            let forecast = calls::forecast(book, u64::from(run[4]));
+            assert_eq!(forecast.code, 0, "case {number}");
+            assert!(r.commands <= forecast.plan_bytes, "case {number}");
+            assert!(r.legs <= forecast.legs, "case {number}");
+        }
 
         let mut plan = [FILL; calls::PLAN_LEN];
         let mut legs = [Leg {

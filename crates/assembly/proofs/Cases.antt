@@ -20,7 +20,7 @@ use Rattle.book.specs.Example.{bookQ, bytesQ, bookDear, bookEven, bytesEven}
 use Rattle.book.proofs.Fields.{all-on}
 use Rattle.book.proofs.Example.{device-bookQ, device-bookDear, device-bookEven}
 use Rattle.book.specs.Lent.{Lent, sizes}
-use Rattle.reader.specs.declared.Reading.{Reading}
+use Rattle.checker.specs.declared.Checking.{Checking}
 use Rattle.reader.proofs.Cases.{bytes-Q, bytes-Dear}
 use Rattle.checker.specs.Checks.{AcceptedBook, Checks, fine}
 use Rattle.checker.specs.Cases.{Judges}
@@ -51,16 +51,16 @@ module _ {E : Type 0} (form : LegForm E) where
   give-Q = give bytes-Q bookQ accepted-Q device-bookQ
 
   -- where checking refuses the book, so does assembling, with its code and place
-  module _ {book : List ℕ} {answer : Reading} (judges : Judges book answer) (refused : answer .code ≡ 0 → ⊥) where
-    gives-code : {c : Reading} {l l′ : Lent} → Checks book l c l′ → LongEnough (sizes l) → c .code ≡ answer .code
-    gives-code x long = ap (λ (y : Reading). y .code) (judges .result x long)
+  module _ {book : List ℕ} {answer : Checking} (judges : Judges book answer) (refused : answer .code ≡ 0 → ⊥) where
+    gives-code : {c : Checking} {l l′ : Lent} → Checks book l c l′ → LongEnough (sizes l) → c .code ≡ answer .code
+    gives-code x long = ap (λ (y : Checking). y .code) (judges .result x long)
 
     as-checking : {run : List ℕ} {l : AllLent E} {r : Assembly} {l′ : AllLent E} → Assembles form book run l r l′ → LongEnough (allSizes form l)
         → (r ≡ refusal (answer .code) (answer .place)) × (l′ .room ≡ l .room)
     as-checking (short a e k) long = absurd (a long)
     as-checking {l = l} (unaccepted long′ x n e w) long =
         let read-long = long-after (roomSizes form (l .room)) (sizes (l .read)) long in
-        (e ∙ ap (λ (y : Reading). refusal (y .code) (y .place)) (judges .result x read-long), w)
+        (e ∙ ap (λ (y : Checking). refusal (y .code) (y .place)) (judges .result x read-long), w)
     as-checking (faulty long′ b k n e w) long = absurd (refused (sym (gives-code (fine b k refl) (k .filled .long))))
     as-checking (answered long′ b k u al ub an right left) long = absurd (refused (sym (gives-code (fine b k refl) (k .filled .long))))
 

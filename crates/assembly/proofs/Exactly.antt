@@ -23,10 +23,10 @@ use Rattle.reversal.proofs.Assembling.{plan-most, answer-right}
 use Rattle.book.specs.Book.{Book, deviceOf}
 use Rattle.book.specs.Lent.{Lent}
 use Rattle.book.proofs.Device.{device-proper}
-use Rattle.reader.specs.declared.Reading.{Reading}
+use Rattle.checker.specs.declared.Checking.{Checking}
 use Rattle.reader.specs.Reads as reads
-use Rattle.checker.specs.Checks.{Checked}
-use Rattle.checker.specs.Contract.{checkBy, CheckAs}
+use Rattle.checker.specs.Checks.{Checked, withUnits}
+use Rattle.checker.specs.Contract.{checkBy, unitsBy, CheckAs}
 use Rattle.reader.proofs.Exactly.{filled}
 use Rattle.checker.proofs.Exactly.{checks}
 use Rattle.checker.proofs.Onward.{BookChecked, book-checked, checked-by, unchecked-by}
@@ -94,8 +94,8 @@ pub data Outcome {E : Type 0} (form : LegForm E) (book run : List ℕ) (l : AllL
 module _ {E : Type 0} {form : LegForm E} (even : Even form) {book run : List ℕ} {l : AllLent E} {r : Assembly} {l′ : AllLent E}
     (c : AssembleAs form book run l r l′) where
   -- checking, as far as it went
-  abbrev f : Reading
-  f = checkBy book (l .read) reads.refusal reads.done
+  abbrev f : Checking
+  f = withUnits (checkBy book (l .read) reads.refusal reads.done) (unitsBy book (l .read))
 
   module _ (long : LongEnough (allSizes form l)) where
     checked : CheckAs book (l .read) f (l′ .read)

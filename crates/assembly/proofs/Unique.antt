@@ -12,7 +12,7 @@ use Rattle.reversal.proofs.Assembling.{answers-unique}
 use Rattle.book.specs.Book.{Book, deviceOf}
 use Rattle.book.specs.Lent.{Lent, sizes}
 use Rattle.book.proofs.Unique.{one-book}
-use Rattle.reader.specs.declared.Reading.{Reading}
+use Rattle.checker.specs.declared.Checking.{Checking}
 use Rattle.reader.proofs.Unique.{same-filled}
 use Rattle.checker.specs.Checks.{Checked, Checks}
 use Rattle.checker.proofs.Unique.{accepted-book, checks-unique, checked-fine}
@@ -22,9 +22,9 @@ use Rattle.assembly.specs.Lent.{LegForm, Room, AllLent, roomSizes, allSi
 use Rattle.assembly.specs.Assembles.{refusal, Left, Assembles, short, unaccepted, faulty, answered}
 use Rattle.assembly.specs.Demand.{Given}
 
-not-accepted : {book : List ℕ} {l : Lent} {c : Reading} {x : Lent} {b : Book} {y : Lent} → Bytes book → Checks book l c x → (c .code ≡ 0 → ⊥)
+not-accepted : {book : List ℕ} {l : Lent} {c : Checking} {x : Lent} {b : Book} {y : Lent} → Bytes book → Checks book l c x → (c .code ≡ 0 → ⊥)
     → Checked book l b y → ⊥
-not-accepted h x n k = n (ap (λ (y : Reading). y .code) (checked-fine h x (k .filled .long) (accepted-book k) .0))
+not-accepted h x n k = n (ap (λ (y : Checking). y .code) (checked-fine h x (k .filled .long) (accepted-book k) .0))
 
 -- one answer is left in one way
 pub same-left : {E : Type 0} {form : LegForm E} {a : Answer} {room : Room E} {r q : Assembly} {x y : Room E} → Left form a room r x
@@ -48,7 +48,7 @@ module _ {E : Type 0} {form : LegForm E} {book run : List ℕ} {l : AllLent E} (
   assembles-unique (unaccepted long x n e w) (short a e′ k) = absurd (a long)
   assembles-unique (unaccepted long x n e w) (unaccepted long′ x′ n′ e′ w′) =
       let (c, i) = checks-unique h x x′ in
-      (e ∙ (ap (λ (y : Reading). refusal (y .code) (y .place)) c ∙ sym e′), both i (w ∙ sym w′))
+      (e ∙ (ap (λ (y : Checking). refusal (y .code) (y .place)) c ∙ sym e′), both i (w ∙ sym w′))
   assembles-unique (unaccepted long x n e w) (faulty long′ b k m e′ w′) = absurd (not-accepted h x n k)
   assembles-unique (unaccepted long x n e w) (answered long′ b k u al ub an right left) = absurd (not-accepted h x n k)
   assembles-unique (faulty long b k n e w) (short a e′ k′) = absurd (a long)
@@ -79,7 +79,7 @@ module _ {E : Type 0} {form : LegForm E} {book run : List ℕ} {l : AllLent E} (
   given-answer (short a e k) long g = absurd (a long)
   given-answer (unaccepted long′ x n e w) long g =
       let read-long = long-after (roomSizes form (l .room)) (sizes (l .read)) long in
-      absurd (n (ap (λ (y : Reading). y .code) (checked-fine h x read-long (g .accepted) .0)))
+      absurd (n (ap (λ (y : Checking). y .code) (checked-fine h x read-long (g .accepted) .0)))
   given-answer (faulty long′ b′ k n e w) long {b} {u} g =
       let x : b ≡ b′ = one-book b b′ (g .accepted .allowed) (k .filled .allowed) (g .accepted .bytes ∙ sym (k .filled .bytes)) in
       absurd (n (u, subst (λ (y : Book). AllowedRun (deviceOf y) u) x (g .allowed), g .run-bytes))

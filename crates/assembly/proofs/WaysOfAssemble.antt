@@ -21,7 +21,7 @@ use Rattle.book.specs.Slots.{itemAt}
 use Rattle.book.proofs.Slots.{slot-holds}
 use Rattle.book.proofs.Weights.{weight-holds}
 use Rattle.book.proofs.Device.{device-proper, tabled-device}
-use Rattle.reader.specs.declared.Reading.{Reading}
+use Rattle.checker.specs.declared.Checking.{Checking}
 use Rattle.checker.specs.Contract.{checkBy, CheckAs}
 use Rattle.checker.proofs.Onward.{BookChecked, book-checked, checked-by, unchecked-by}
 use Rattle.runs.specs.Computed.{lastOf, runOf, runFaulty}
@@ -59,12 +59,12 @@ module _ {book run : List ℕ} {l : AllLent ℕ} (bytes : Bytes book) (run-bytes
 abbrev left : Lent → Room ℕ → AllLent ℕ
 left read room = record { read = read; room = room }
 
-pub record Entered (book run : List ℕ) (l : AllLent ℕ) (f : Reading) (read : Lent) : Type 0 where
+pub record Entered (book run : List ℕ) (l : AllLent ℕ) (f : Checking) (read : Lent) : Type 0 where
   pub check : CheckAs book (l .read) f read
   pub run-bytes : Bytes run
   pub long : LongEnough (roomSizes inBytes (l .room))
 
-module _ {book run : List ℕ} {l : AllLent ℕ} {f : Reading} {read : Lent} (h : Entered book run l f read) where
+module _ {book run : List ℕ} {l : AllLent ℕ} {f : Checking} {read : Lent} (h : Entered book run l f read) where
   abbrev c : CheckAs book (l .read) f read
   c = h .check
 
@@ -93,13 +93,13 @@ module _ {book run : List ℕ} {l : AllLent ℕ} {f : Reading} {read : Lent} (h 
     b = g .book
 
     n-is : f .n ≡ b .n
-    n-is = ap (λ (x : Reading). x .n) (g .result)
+    n-is = ap (λ (x : Checking). x .n) (g .result)
 
     m-is : f .m ≡ b .m
-    m-is = ap (λ (x : Reading). x .m) (g .result)
+    m-is = ap (λ (x : Checking). x .m) (g .result)
 
     items-is : f .items ≡ length (b .items)
-    items-is = ap (λ (x : Reading). x .items) (g .result)
+    items-is = ap (λ (x : Checking). x .items) (g .result)
 
     -- what the passes ask
     pub limits : (f .n ≤ 64) × (f .m ≤ 32) × (f .items ≤ 64)
@@ -122,7 +122,7 @@ module _ {book run : List ℕ} {l : AllLent ℕ} {f : Reading} {read : Lent} (h 
 
     device-is : tabled (f .n) (f .m) (read .table) ≡ deviceOf b
     device-is =
-        ap (λ (x : Reading). tabled (x .n) (x .m) (read .table)) (g .result) ∙ ap (λ (x : Lent). tabled (b .n) (b .m) (x .table)) (g .buffers)
+        ap (λ (x : Checking). tabled (x .n) (x .m) (read .table)) (g .result) ∙ ap (λ (x : Lent). tabled (b .n) (b .m) (x .table)) (g .buffers)
         ∙ tabled-device b (l .read .table) (g .accepted .allowed) (g .long .0)
 
     faulty-is : runFaulty (b .n) (b .m) run ≡ runFaulty (f .n) (f .m) run
@@ -134,12 +134,12 @@ module _ {book run : List ℕ} {l : AllLent ℕ} {f : Reading} {read : Lent} (h 
         after-check (picks.yes _ _ _ _ y p ∙ sym (checked-by c _ _ g)) (picks.yes _ _ _ _ y refl ∙ sym (checked-by c _ _ g))
 
 -- ---- the book is accepted and the run is fine
-pub record FineRun (book run : List ℕ) (l : AllLent ℕ) (f : Reading) (read : Lent) : Type 0 where
+pub record FineRun (book run : List ℕ) (l : AllLent ℕ) (f : Checking) (read : Lent) : Type 0 where
   pub entered : Entered book run l f read
   pub accepted : f .code ≡ 0
   pub fine : runFaulty (f .n) (f .m) run ≡ false
 
-module _ {book run : List ℕ} {l : AllLent ℕ} {f : Reading} {read : Lent} (w : FineRun book run l f read) where
+module _ {book run : List ℕ} {l : AllLent ℕ} {f : Checking} {read : Lent} (w : FineRun book run l f read) where
   abbrev h : Entered book run l f read
   h = w .entered
 
@@ -185,14 +185,14 @@ module _ {book run : List ℕ} {l : AllLent ℕ} {f : Reading} {read : Lent} (w 
         (l .room) s p)
 
 -- ---- some state is possible and the numbers are known
-pub record NumbersKnown (beliefs : List ℕ) (i : ℕ) (fewest firsts : List ℕ) (book run : List ℕ) (l : AllLent ℕ) (f : Reading) (read : Lent) : Type 0 where
+pub record NumbersKnown (beliefs : List ℕ) (i : ℕ) (fewest firsts : List ℕ) (book run : List ℕ) (l : AllLent ℕ) (f : Checking) (read : Lent) : Type 0 where
   pub fine-run : FineRun book run l f read
   pub believed : Believed (tabled (f .n) (f .m) (read .table)) (runOf run) beliefs
   pub some : getD beliefs 0 0 ≡ 0 → ⊥
   pub last-point : i ≡ lastOf run
   pub num : Numbered (linksOf (itemAt (read .slots)) (read .weights) run beliefs (f .items)) i fewest firsts
 
-module _ {beliefs : List ℕ} {i : ℕ} {fewest firsts book run : List ℕ} {l : AllLent ℕ} {f : Reading} {read : Lent}
+module _ {beliefs : List ℕ} {i : ℕ} {fewest firsts book run : List ℕ} {l : AllLent ℕ} {f : Checking} {read : Lent}
     (k : NumbersKnown beliefs i fewest firsts book run l f read) where
   abbrev w : FineRun book run l f read
   w = k .fine-run

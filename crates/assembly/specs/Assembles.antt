@@ -10,7 +10,7 @@ use Rattle.reversal.specs.Runs.{Run, AllowedRun}
 use Rattle.reversal.specs.Chains.{none}
 use Rattle.reversal.specs.Answers.{Answer, Answers}
 use Rattle.book.specs.Book.{Book, deviceOf}
-use Rattle.reader.specs.declared.Reading.{Reading}
+use Rattle.checker.specs.declared.Checking.{Checking}
 use Rattle.checker.specs.Checks.{Checked, Checks}
 use Rattle.runs.specs.RunBytes.{runBytes, RunFormed}
 use Rattle.assembly.specs.declared.Assembly.{Assembly}
@@ -36,7 +36,7 @@ pub data Assembles {E : Type 0} (form : LegForm E) (book run : List ℕ) (l : Al
   short : (LongEnough (allSizes form l) → ⊥) → result ≡ refusal 1 0 → l′ ≡ l → Assembles form book run l result l′
   -- "then .. 8", with 02 8 or 12: what checking refuses, with its code and place, and table, slots and weights as checking
   -- leaves them
-  unaccepted : LongEnough (allSizes form l) → {c : Reading} → Checks book (l .read) c (l′ .read) → (c .code ≡ 0 → ⊥)
+  unaccepted : LongEnough (allSizes form l) → {c : Checking} → Checks book (l .read) c (l′ .read) → (c .code ≡ 0 → ⊥)
       → result ≡ refusal (c .code) (c .place) → l′ .room ≡ l .room → Assembles form book run l result l′
   -- "9, 0: run isn't exactly one record as above, or a command or mask is outside m or n; table and slots read", with 02 the weights too
   faulty : LongEnough (allSizes form l) → (b : Book) → Checked book (l .read) b (l′ .read) → (RunFormed (deviceOf b) run → ⊥)

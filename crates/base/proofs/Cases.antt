@@ -4,7 +4,8 @@ use native.Mathlib.Omega.{arith}
 use lib.Dec.{lit<}
 use Rattle.base.specs.Tests.{pick}
 use Rattle.base.specs.Bounded.{seek}
-use Rattle.base.specs.Masks.{member, without, lowestIn, present}
+use Rattle.base.specs.Cardinality.{member, present}
+use Rattle.base.specs.Masks.{without, lowestIn}
 use Rattle.base.specs.Cases.{StatesPresent}
 use Rattle.base.proofs.Trailing.{lowest-is}
 use Rattle.base.proofs.Present.{present-is}

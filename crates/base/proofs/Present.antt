@@ -3,7 +3,7 @@
 use mathlib.Core.Path.{_≡_, refl, sym, ap, ap₂, _∙_}
 use mathlib.Core.Bool.{Bool, true, false, false≢true}
 use mathlib.Core.Logic.{_⊎_, inl, inr, ⊎-elim}
-use mathlib.Core.List.{List, [], _∷_, _++_, append-nil}
+use mathlib.Core.List.{List, [], _∷_, _++_, append-assoc, append-nil}
 use Prim.Native.Nat.{ℕ, zero, suc, _+_, _/_, _%_, _^_, _≤_, _<_}
 use native.Mathlib.Nat.{le-of-suc-le-suc, eq-or-lt-of-le}
 use native.Mathlib.Omega.{arith}
@@ -13,7 +13,8 @@ use lib.ListN.{length, length-append}
 use Rattle.base.specs.Sets.{In}
 use Rattle.base.specs.Lists.{Each}
 use Rattle.base.specs.Tests.{pick}
-use Rattle.base.specs.Masks.{member, lowestIn, without, present, cardinality}
+use Rattle.base.specs.Cardinality.{member, present, cardinality}
+use Rattle.base.specs.Masks.{lowestIn, without}
 use Rattle.base.specs.Present.{Ascending, Among, Present}
 use Rattle.base.proofs.Tests.{T-true, true-T}
 use Rattle.base.proofs.Parts.{each-append, each-map}
@@ -140,6 +141,19 @@ present-next (suc n) w l h = ⊎-elim here (λ b. later b (present-next n w (ome
     later : lowestIn w < n → present n w ≡ lowestIn w ∷ present n (without w (lowestIn w)) → present n w ++ pick (member w n) (n ∷ []) []
         ≡ lowestIn w ∷ (present n (without w (lowestIn w)) ++ pick (member (without w (lowestIn w)) n) (n ∷ []) [])
     later b e = rw (e, others n (λ z. omega arith))
+
+-- those below a state of w, and then it
+pub present-split : (n w s : ℕ) → s < n → In w s → (rest : List ℕ) × (present n w ≡ present s w ++ s ∷ rest)
+unfolding present pick
+present-split zero w s l h = absurd (omega arith)
+present-split (suc n) w s l h = ⊎-elim here (λ b. later (present-split n w s b h)) (eq-or-lt-of-le (le-of-suc-le-suc l))
+  where
+    here : s ≡ n → (rest : List ℕ) × (present n w ++ pick (member w n) (n ∷ []) [] ≡ present s w ++ s ∷ rest)
+    here e = let t : member w n ≡ true = T-true (member w n) (in-member w n (rw e at h)) in ([], rw (t, e))
+
+    later : (rest : List ℕ) × (present n w ≡ present s w ++ s ∷ rest)
+        → (rest : List ℕ) × (present n w ++ pick (member w n) (n ∷ []) [] ≡ present s w ++ s ∷ rest)
+    later (rest, e) = let last = pick (member w n) (n ∷ []) [] in (rest ++ last, rw e (append-assoc (present s w) (s ∷ rest) last))
 
 -- ---- their number, the cardinality
 one-more : (xs : List ℕ) (n : ℕ) (b : Bool) → length (xs ++ pick b (n ∷ []) []) ≡ length xs + pick b 1 0

@@ -8,7 +8,8 @@ use lib.Dec.{eqb}
 use Rattle.base.specs.Sets.{In}
 use Rattle.base.specs.Tests.{pick}
 use Rattle.base.specs.Bounded.{seek}
-use Rattle.base.specs.Masks.{member, lowestIn}
+use Rattle.base.specs.Cardinality.{member}
+use Rattle.base.specs.Masks.{lowestIn}
 use Rattle.base.specs.Present.{LowestState}
 use Rattle.base.proofs.Tests.{T-true, true-T}
 use Rattle.base.proofs.Bounded.{seek-hit, seek-low, seek-same, seek-suc}

@@ -7,7 +7,8 @@ use native.Mathlib.Omega.{arith}
 use lib.ListN.{length}
 use Rattle.base.specs.Tests.{pick, both, imp}
 use Rattle.base.specs.Bounded.{all, any}
-use Rattle.base.specs.Masks.{member, lowestIn, without, present, cardinality}
+use Rattle.base.specs.Cardinality.{member, present, cardinality}
+use Rattle.base.specs.Masks.{lowestIn, without}
 use Rattle.base.proofs.Tests.{pick-self, both-true}
 use Rattle.base.proofs.Present.{present-end, present-next}
 

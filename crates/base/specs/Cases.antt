@@ -2,7 +2,8 @@
 use mathlib.Core.Path.{_≡_}
 use mathlib.Core.List.{[], _∷_}
 use Prim.Native.Nat.{_-_, _^_}
-use Rattle.base.specs.Masks.{without, lowestIn, present, cardinality}
+use Rattle.base.specs.Cardinality.{present, cardinality}
+use Rattle.base.specs.Masks.{without, lowestIn}
 use Rattle.base.specs.Present.{Present, LowestState}
 
 pub record StatesPresent : Type 0 where

@@ -1,4 +1,5 @@
 // Runs the cases of books.bin through reading and checking, and prints what each answers and leaves behind.
+use checker::Checking;
 use reader::Reading;
 
 // The table before a call: entry + 1 at each entry.
@@ -27,6 +28,11 @@ fn print_reading(r: Reading) {
     vectors::print_numbers(&row, 5);
 }
 
+fn print_checking(r: Checking) {
+    let row = [r.code, r.place, r.n, r.m, r.items, r.units];
+    vectors::print_numbers(&row, 6);
+}
+
 fn read_case(book: &[u8], table: &mut [u64], slots: &mut [u8], weights: &mut [u16]) {
     pattern_table(table);
     pattern_slots(slots);
@@ -38,7 +44,7 @@ fn check_case(book: &[u8], table: &mut [u64], slots: &mut [u8], weights: &mut [u
     pattern_table(table);
     pattern_slots(slots);
     pattern_weights(weights);
-    print_reading(checker::check(book, table, slots, weights));
+    print_checking(checker::check(book, table, slots, weights));
 }
 
 // One case: reading, then checking with the buffers as before reading.

@@ -1,6 +1,6 @@
 -- Q's book as bytes: its 225 bytes are accepted, and read as the device and items of the joint table; with the item of Q2 in place of item 1 it is
 -- refused at that item's record, with those of Q3 and Q4 behind it at the first of them. Assumes nothing.
-use mathlib.Core.Path.{_≡_, refl, sym, subst}
+use mathlib.Core.Path.{_≡_, refl, sym, ap, _∙_, subst}
 use mathlib.Core.Bool.{true}
 use mathlib.Core.List.{List, [], _∷_, _++_}
 use Prim.Native.Nat.{ℕ, _<_}
@@ -11,12 +11,14 @@ use Rattle.base.specs.Sizes.{LongEnough}
 use Rattle.base.specs.Tests.{pick, both, imp}
 use Rattle.base.specs.Compare.{less, atMost, same, differ}
 use Rattle.base.specs.Bounded.{all, any, union, seek}
-use Rattle.base.specs.Masks.{member, clearFrom}
+use Rattle.base.specs.Cardinality.{member, present}
+use Rattle.base.specs.Masks.{clearFrom}
 use Rattle.octets.specs.Le.{bytesLe}
 use Rattle.reversal.specs.Device.{Device}
 use Rattle.reversal.specs.Reversal.{Item, Accepted}
 use Rattle.reversal.specs.Twelve.{made, itemsQ, itemQ2, itemQ3, itemQ4}
 use Rattle.reversal.specs.Computed.Sets.{after, able, reach, runsBack, ends, startOk, reverses, startUsed, effective, accepts}
+use Rattle.reversal.specs.Computed.Units.{backUnits, startMade, startsMade, itemMade, itemsMade}
 use Rattle.reversal.specs.Weighted.{dear, itemsDear, itemsEven}
 use Rattle.reversal.proofs.Cases.{twelve, weighted}
 use Rattle.book.specs.Book.{Book, outcomeOf, frame, twoBytes, allOne, weightsRecs}
@@ -28,15 +30,15 @@ use Rattle.book.specs.Example.{bookQ, bytesQ, bookDear, bytesDear, bookEven, by
 use Rattle.book.proofs.Fields.{all-on}
 use Rattle.book.proofs.Reading.{parse-fine}
 use Rattle.book.proofs.Example.{bytes-bookQ, allowed-bookQ, device-bookQ, bytes-bookDear, allowed-bookDear, device-bookDear, bytes-bookEven, allowed-bookEven, device-bookEven}
-use Rattle.reader.specs.declared.Reading.{Reading}
 use Rattle.reader.specs.Reads.{refusal}
 use Rattle.reader.proofs.Cases.{bytes-Q, bytes-Dear}
+use Rattle.checker.specs.declared.Checking.{Checking}
 use Rattle.checker.specs.Reasons.{codeOf}
-use Rattle.checker.specs.Checks.{AcceptedBook, placeOf, Checks}
+use Rattle.checker.specs.Checks.{AcceptedBook, placeOf, withUnits, Checks}
 use Rattle.checker.specs.Cases.{Judges, QChecked}
-use Rattle.checker.specs.Contract.{wrongItem, reasonFor, reasonIn}
-use Rattle.checker.proofs.Exactly.{first-wrong}
-use Rattle.checker.proofs.Unique.{checked-fine, checked-wrong}
+use Rattle.checker.specs.Contract.{wrongItem, reasonFor, reasonIn, unitsOf}
+use Rattle.checker.proofs.Exactly.{first-wrong, units-made}
+use Rattle.checker.proofs.Unique.{made-unique, checked-fine, checked-wrong}
 
 -- the items of the two cases with weights
 pub accepted-Dear : AcceptedBook bytesDear bookDear
@@ -54,15 +56,20 @@ accepted-Q =
 
 -- bytes that parse as a book whose item i is the first that the test turns down
 refused-at : (s : List ℕ) (b : Book) → allBelow 256 s ≡ true → parse s ≡ Ok b → wrongItem b < length (b .items)
-    → Judges s (refusal (codeOf (reasonIn b)) (placeOf b (wrongItem b)))
+    → Judges s (withUnits (refusal (codeOf (reasonIn b)) (placeOf b (wrongItem b))) (unitsOf b))
 refused-at s b h e l =
     let bytes = all-on 256 s h in
     let (a, same) = parse-fine s b bytes e in
-    record { result = λ x long. checked-wrong bytes x long a same (first-wrong b a l) .0 }
+    record {
+      result =
+          λ x long.
+          let (units, u, q) = checked-wrong bytes x long a same (first-wrong b a l) .0 in
+          q ∙ ap (withUnits _) (made-unique b (wrongItem b) (reasonIn b) u (units-made b a l));
+    }
 
 -- and the weights are the book's
 filled-at : (s : List ℕ) (b : Book) → allBelow 256 s ≡ true → parse s ≡ Ok b → wrongItem b < length (b .items)
-    → {l : Lent} {r : Reading} {l′ : Lent} → Checks s l r l′ → LongEnough (sizes l) → WeightsRead b (l .weights) (l′ .weights)
+    → {l : Lent} {r : Checking} {l′ : Lent} → Checks s l r l′ → LongEnough (sizes l) → WeightsRead b (l .weights) (l′ .weights)
 filled-at s b h e l x long =
     let bytes = all-on 256 s h in
     let (a, same) = parse-fine s b bytes e in
@@ -79,7 +86,7 @@ longer : List Item → Book
 longer xs = record { n = 3; m = 3; weights = bookQ .weights; moves = bookQ .moves; items = bookQ .items ++ xs }
 
 pub q-checked : QChecked
-unfolding pick both imp less atMost same differ all any union seek member clearFrom bytesLe frame outcomeOf after able reach runsBack ends startOk reverses startUsed effective accepts wrongItem reasonFor parse cutAfter scan kindOf step deviceFine moveFine countsFine allBelow fieldsFine moveOf itemOf weightsIn movesIn itemsIn weightsOf weightFine weightsFine twoBytes allOne weightsRecs bookQ2 longer dearer
+unfolding pick both imp less atMost same differ all any union seek member clearFrom bytesLe frame outcomeOf after able reach runsBack ends startOk reverses startUsed effective accepts present backUnits startMade startsMade itemMade itemsMade wrongItem reasonFor parse cutAfter scan kindOf step deviceFine moveFine countsFine allBelow fieldsFine moveOf itemOf weightsIn movesIn itemsIn weightsOf weightFine weightsFine twoBytes allOne weightsRecs bookQ2 longer dearer
 q-checked =
     record {
       q1 = record { result = λ x long. checked-fine bytes-Q x long accepted-Q .0 };
@@ -90,6 +97,9 @@ q-checked =
       no-psi = refused-at _ (longer (made (1 ∷ []) (0 ∷ []) 7 0 ∷ [])) refl refl (lit< tt);
       eight-first = refused-at _ (longer (itemQ3 ∷ itemQ4 ∷ [])) refl refl (lit< tt);
       twelve-first = refused-at _ (longer (itemQ4 ∷ itemQ3 ∷ [])) refl refl (lit< tt);
+      stuck-first = refused-at _ (longer (made (2 ∷ []) (2 ∷ 1 ∷ []) 7 7 ∷ [])) refl refl (lit< tt);
+      stuck-second = refused-at _ (longer (made (2 ∷ []) (1 ∷ 2 ∷ 0 ∷ []) 7 7 ∷ [])) refl refl (lit< tt);
+      no-reverse = refused-at _ (longer (made (1 ∷ []) [] 7 1 ∷ [])) refl refl (lit< tt);
       dear = record { result = λ x long. checked-fine bytes-Dear x long accepted-Dear .0 };
       dear-wrong = refused-at _ dearer refl refl (lit< tt);
       dear-filled = λ x long. filled-at _ dearer refl refl (lit< tt) x long .front;

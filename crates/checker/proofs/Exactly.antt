@@ -1,14 +1,14 @@
--- The contract of checking gives what 01 and 02 say; the first item that the test turns down is the first that is not accepted by trajectories, and the
--- reason is its own. Assumes nothing.
-use mathlib.Core.Path.{_≡_, refl, sym, ap, _∙_}
+-- The contract of checking gives what 01 and 02 say; the first item that the test turns down is the first that is not accepted by trajectories, the
+-- reason is its own, and the units made are those that 02 counts. Assumes nothing.
+use mathlib.Core.Path.{_≡_, refl, sym, ap, ap₂, _∙_}
 use mathlib.Core.Bool.{Bool, true, false, false≢true}
 use mathlib.Core.Logic.{_↔_}
 use mathlib.Core.List.{List}
-use Prim.Native.Nat.{ℕ, _≤_, _<_}
+use Prim.Native.Nat.{ℕ, _+_, _≤_, _<_}
 use native.Mathlib.Omega.{arith}
 use native.Mathlib.Decide.{decLt}
 use lib.Dec.{T}
-use lib.ListN.{length}
+use lib.ListN.{length, take}
 use Rattle.base.specs.Sets.{NoBitFrom}
 use Rattle.base.specs.Lists.{Each}
 use Rattle.base.specs.Tests.{pick, both}
@@ -17,12 +17,15 @@ use Rattle.base.specs.Shorter.{anyShort}
 use Rattle.base.proofs.Lists.{each-at, each-of}
 use Rattle.base.proofs.Sizes.{on-short}
 use Rattle.base.proofs.Tests.{T-true, true-T}
-use Rattle.base.proofs.Lowest.{Tells, fails, lowest-wrong, none-wrong as none-lowest, wrong-none}
+use Rattle.base.proofs.Lowest.{Tells, fails, passes, lowest-wrong, none-wrong as none-lowest, wrong-none}
 use Rattle.reversal.specs.Device.{Device, Proper}
 use Rattle.reversal.specs.Reversal.{Item, AllowedItem, Accepted}
 use Rattle.reversal.specs.Chains.{absent, item}
+use Rattle.reversal.specs.Units.{sumUnits}
 use Rattle.reversal.specs.Computed.Sets.{reverses, effective, accepts}
+use Rattle.reversal.specs.Computed.Units.{itemMade}
 use Rattle.reversal.proofs.Reversals.{reverses↔, effective↔, accepts↔}
+use Rattle.reversal.proofs.Units.{item-all, items-all, items-first, units-to-failure, sum-next}
 use Rattle.book.specs.Book.{Book, deviceOf, AllowedBook, bytesOf}
 use Rattle.book.specs.Lent.{Lent, sizes}
 use Rattle.book.specs.Parse.{parse}
@@ -37,10 +40,11 @@ use Rattle.reader.specs.Reads as reads
 use Rattle.reader.proofs.Ways.{Way, by-short, by-fault, by-book, way, when-short, when-faulty, when-fine}
 use Rattle.reader.proofs.Exactly.{filled}
 use Rattle.checker.specs.declared.Reason.the-variants.{NoReversePlan, NotEffective}
+use Rattle.checker.specs.declared.Checking.{Checking}
 use Rattle.checker.specs.declared.Judgement.{Judgement}
 use Rattle.checker.specs.Reasons.{codeOf, Due}
-use Rattle.checker.specs.Checks.{placeOf, WrongFor, Checks, unread, wrong, fine}
-use Rattle.checker.specs.Contract.{wrongItem, reasonFor, reasonIn, judgementOf, onJudgement, judgedBy, checkBy, CheckAs}
+use Rattle.checker.specs.Checks.{placeOf, WrongFor, UnitsMade, withUnits, Checks, unread, wrong, fine}
+use Rattle.checker.specs.Contract.{wrongItem, reasonFor, reasonIn, judgementOf, unitsOf, onJudgement, judgedBy, checkBy, CheckAs}
 use Rattle.checker.proofs.Judging.{one-wrong, all-accepted as none-turned-down}
 
 -- ---- the judgement of a book, by its test
@@ -87,6 +91,32 @@ module _ (b : Book) (a : AllowedBook b) where
             (fails (λ i. accepts (deviceOf b) (item (b .items) i)) (length (b .items)) h);
       }
 
+  -- 02's count of the units made
+  pub units-made : wrongItem b < length (b .items) → UnitsMade b (wrongItem b) (reasonIn b) (unitsOf b)
+  unfolding wrongItem accepts reasonFor pick both
+  units-made h = go (reverses d x) refl
+    where
+      d : Device
+      d = deviceOf b
+
+      test : ℕ → Bool
+      test i = accepts d (item (b .items) i)
+
+      i : ℕ
+      i = wrongItem b
+
+      x : Item
+      x = item (b .items) i
+
+      up-to : unitsOf b ≡ sumUnits (b .n) (take i (b .items)) + itemMade d x
+      up-to =
+          items-first d (device-proper b a) (b .items) i h (λ j l. true-T _ (passes test (length (b .items)) j l (omega arith)))
+          (fails test (length (b .items)) h)
+
+      go : (r : Bool) → reverses d x ≡ r → UnitsMade b i (pick r NotEffective NoReversePlan) (unitsOf b)
+      go true e = up-to ∙ rw (item-all d (device-proper b a) x (true-T _ e)) (sym (sum-next (b .n) (b .items) i h))
+      go false e = (itemMade d x, units-to-failure d (device-proper b a) x (starts-states i h) e, up-to)
+
   pub all-accepted : length (b .items) ≤ wrongItem b → Each (Accepted (deviceOf b)) (b .items)
   unfolding wrongItem
   all-accepted h = each-of (Accepted (deviceOf b)) (b .items) absent (none-lowest _ (length (b .items)) tells h)
@@ -96,42 +126,48 @@ module _ (b : Book) (a : AllowedBook b) where
   unfolding wrongItem
   none-wrong e = wrong-none _ (length (b .items)) tells (λ i l. each-at (Accepted (deviceOf b)) (b .items) e i absent l)
 
+  pub all-units : length (b .items) ≤ wrongItem b → unitsOf b ≡ sumUnits (b .n) (b .items)
+  unfolding wrongItem
+  all-units h =
+      items-all (deviceOf b) (device-proper b a) (b .items)
+      (each-of (λ x. T (accepts (deviceOf b) x)) (b .items) absent (λ i l. true-T _ (passes (λ i. accepts (deviceOf b) (item (b .items) i)) (length (b .items)) i (omega arith) l)))
+
 -- ---- the call
-module _ {s : List ℕ} {l : Lent} {r : Reading} {l′ : Lent} (c : CheckAs s l r l′) where
-  pub result-short : anyShort (sizes l) ≡ true → r ≡ refusal 1 0
+module _ {s : List ℕ} {l : Lent} {r : Checking} {l′ : Lent} (c : CheckAs s l r l′) where
+  pub result-short : anyShort (sizes l) ≡ true → r ≡ withUnits (refusal 1 0) 0
   unfolding checkBy
-  result-short h = c .result ∙ when-short s l refusal (judgedBy refusal done) h
+  result-short h = c .result ∙ ap₂ withUnits (when-short s l refusal (judgedBy refusal done) h) (when-short s l (λ code place. 0) unitsOf h)
 
-  pub result-faulty : LongEnough (sizes l) → (code place : ℕ) → parse s ≡ Refused code place → r ≡ refusal code place
+  pub result-faulty : LongEnough (sizes l) → (code place : ℕ) → parse s ≡ Refused code place → r ≡ withUnits (refusal code place) 0
   unfolding checkBy
-  result-faulty k code place e = c .result ∙ when-faulty s l refusal (judgedBy refusal done) k code place e
+  result-faulty k code place e =
+      c .result
+      ∙ ap₂ withUnits (when-faulty s l refusal (judgedBy refusal done) k code place e) (when-faulty s l (λ code place. 0) unitsOf k code place e)
 
-  result-book : LongEnough (sizes l) → (b : Book) → parse s ≡ Ok b → r ≡ judgedBy refusal done b
+  result-book : LongEnough (sizes l) → (b : Book) → parse s ≡ Ok b → r ≡ withUnits (judgedBy refusal done b) (unitsOf b)
   unfolding checkBy
-  result-book k b e = c .result ∙ when-fine s l refusal (judgedBy refusal done) k b e
+  result-book k b e = c .result ∙ ap₂ withUnits (when-fine s l refusal (judgedBy refusal done) k b e) (when-fine s l (λ code place. 0) unitsOf k b e)
 
   pub result-wrong : LongEnough (sizes l) → (b : Book) → parse s ≡ Ok b → wrongItem b < length (b .items)
-      → r ≡ refusal (codeOf (reasonIn b)) (placeOf b (wrongItem b))
-  result-wrong k b e h = result-book k b e ∙ by-wrong b h refusal (done b)
+      → r ≡ withUnits (refusal (codeOf (reasonIn b)) (placeOf b (wrongItem b))) (unitsOf b)
+  result-wrong k b e h = result-book k b e ∙ ap (λ (q : Reading). withUnits q (unitsOf b)) (by-wrong b h refusal (done b))
 
-  pub result-fine : LongEnough (sizes l) → (b : Book) → parse s ≡ Ok b → length (b .items) ≤ wrongItem b → r ≡ done b
-  result-fine k b e h = result-book k b e ∙ by-none b h refusal (done b)
+  pub result-fine : LongEnough (sizes l) → (b : Book) → parse s ≡ Ok b → length (b .items) ≤ wrongItem b → r ≡ withUnits (done b) (unitsOf b)
+  result-fine k b e h = result-book k b e ∙ ap (λ (q : Reading). withUnits q (unitsOf b)) (by-none b h refusal (done b))
 
   pub checks : Checks s l r l′
   checks = go (way s l)
     where
-      code-of : {x : Reading} → r ≡ x → r .code ≡ x .code
-      code-of e = ap (λ (y : Reading). y .code) e
-
       judged : LongEnough (sizes l) → (b : Book) → parse s ≡ Ok b → AllowedBook b → bytesOf b ≡ s → Dec (wrongItem b < length (b .items)) → Checks s l r l′
-      judged k b e a same (yes h) = wrong b (filled (c .buffers) k b a same e) (first-wrong b a h) (result-wrong k b e h)
+      judged k b e a same (yes h) = wrong b (filled (c .buffers) k b a same e) (first-wrong b a h) (units-made b a h) (result-wrong k b e h)
       judged k b e a same (no h) =
-          fine b (record { filled = filled (c .buffers) k b a same e; accepted = all-accepted b a (omega arith) }) (result-fine k b e (omega arith))
+          let none : length (b .items) ≤ wrongItem b = omega arith in
+          fine b (record { filled = filled (c .buffers) k b a same e; accepted = all-accepted b a none })
+          (result-fine k b e none ∙ ap (withUnits (done b)) (all-units b a none))
 
       go : Way s l → Checks s l r l′
-      go (by-short h) = unread (reads.short (on-short (sizes l) h) (result-short h) (c .buffers ∙ when-short s l _ _ h)) (λ z. omega (arith, code-of (result-short h)))
+      go (by-short h) = unread (reads.short (on-short (sizes l) h) refl (c .buffers ∙ when-short s l _ _ h)) (λ z. omega arith) (result-short h)
       go (by-fault k code place e) =
           let f = refused-exactly s code place (c .bytes) .0 e in
-          unread (reads.faulty k f (result-faulty k code place e) (c .buffers ∙ when-faulty s l _ _ k code place e))
-          (λ z. omega (arith, code-of (result-faulty k code place e), refusal-codes s code place f))
+          unread (reads.faulty k f refl (c .buffers ∙ when-faulty s l _ _ k code place e)) (λ z. omega (arith, refusal-codes s code place f)) (result-faulty k code place e)
       go (by-book k b e) = let (a, same) = parse-fine s b (c .bytes) e in judged k b e a same (decLt (wrongItem b) (length (b .items)))

@@ -11,17 +11,24 @@ use lib.Dec.{eqb}
 use lib.ListN.{length, getD, take, drop}
 use lib.Seq.{take-suc, take-all}
 use Rattle.base.specs.Tests.{pick, both, imp}
+use Rattle.base.specs.Cardinality.{present}
 use Rattle.base.specs.Masks.{added, without, lowestIn}
 use Rattle.base.proofs.Tests.{pick-self, pick-either}
+use Rattle.base.proofs.Present.{present-end, present-next}
 use Rattle.base.proofs.Visiting.{gathered, Visiting, visit-next, visit-end, allSoFar, someSoFar, all-gathered, any-gathered, all-failed}
 use Rattle.reversal.specs.Device.{Device, tabled}
 use Rattle.reversal.specs.Reversal.{Item}
 use Rattle.reversal.specs.Computed.Sets.{after, reach, runsBack, ends, startOk, reverses, startUsed, effective}
+use Rattle.reversal.specs.Computed.Units.{backUnits, startMade, startsMade, itemMade}
 use Rattle.states.specs.declared.StateSet.{StateSet}
 use Rattle.states.specs.StateSets.{setOf, afterIn}
 use Rattle.states.proofs.Laws.{after-limits}
 use Rattle.items.specs.declared.Place.{Place}
 use Rattle.items.specs.Items.{Fields}
+use Rattle.checker.specs.declared.counted.Counted.{Counted}
+use Rattle.checker.specs.declared.Back.{Back}
+use Rattle.checker.specs.Counted.{countedSet}
+use Rattle.checker.specs.Contract.{backOf}
 
 reach-append : (d : Device) (w : ℕ) (cs : List ℕ) (c : ℕ) → reach d w (cs ++ c ∷ []) ≡ after d c (reach d w cs)
 unfolding reach
@@ -38,19 +45,23 @@ module _ (n m : ℕ) (table s : List ℕ) (p : Place) where
   abbrev d : Device
   d = tabled n m table
 
-  -- the set after the first j forward commands from a start
-  abbrev pub Reached : ℕ → StateSet → ℕ → Type 0
-  Reached S set j = (x : Item) → Fields s p x → set ≡ setOf (reach d (2 ^ S) (take j (x .forward)))
+  -- the set after the first j forward commands from a start, and a unit for each
+  pub record Reached (S units : ℕ) (x : Counted) (j : ℕ) : Type 0 where
+    pub count : x .units ≡ units + j
+    pub set-is : (y : Item) → Fields s p y → x .set ≡ setOf (reach d (2 ^ S) (take j (y .forward)))
 
-  -- the ends in phi from a start
-  abbrev pub Ended : ℕ → ℕ → Type 0
-  Ended S w = (x : Item) → Fields s p x → w ≡ ends d (x .forward) (x .phi) S
+  -- the ends in phi from a start, with the units of the forward commands
+  pub record Ended (S units : ℕ) (x : Counted) : Type 0 where
+    pub count : x .units ≡ units + p .k
+    pub ends-are : (y : Item) → Fields s p y → x .set .mask ≡ ends d (y .forward) (y .phi) S
 
-  -- `start` is the lowest of the rest; the starts before it pass, and whether some of them is used: with the rest they give the judgement
-  pub record Passed (rest start : ℕ) (used : Bool) : Type 0 where
+  -- `start` is the lowest of the rest; the starts before it pass, and whether some of them is used: with the rest they give the judgement; the units
+  -- so far, `before` where the item was begun, with those of the rest give the item's
+  pub record Passed (before rest start units : ℕ) (used : Bool) : Type 0 where
     pub next : start ≡ lowestIn rest
     pub all-pass : (x : Item) → Fields s p x → gathered (allSoFar (startOk d x)) n true rest ≡ reverses d x
     pub some-used : (x : Item) → Fields s p x → gathered (someSoFar (hasEnd d x)) n used rest ≡ effective d x
+    pub count : (x : Item) → Fields s p x → units + startsMade d x (present n rest) ≡ before + itemMade d x
 
   -- ---- forward commands
 
@@ -61,40 +72,53 @@ module _ (n m : ℕ) (table s : List ℕ) (p : Place) where
   forward-is : (x : Item) → Fields s p x → forward ≡ x .forward
   forward-is x f = let e : p .forward + p .k - p .forward ≡ p .k = omega arith in rw e (f .forward-is)
 
-  pub reach-start : (S : ℕ) (none set : StateSet) → S < 64 → none ≡ setOf 0 → set ≡ setOf (added (none .mask) S) → Reached S set 0
+  pub reach-start : (S units : ℕ) (none set : StateSet) → S < 64 → none ≡ setOf 0 → set ≡ setOf (added (none .mask) S)
+      → Reached S units (record { set = set; units = units }) 0
   unfolding reach added pick
-  reach-start S none set h z e = λ x f. e ∙ rw (z, lt-ltb S 64 h)
+  reach-start S units none set h z e = record { count = omega arith; set-is = λ x f. e ∙ rw (z, lt-ltb S 64 h) }
 
-  pub reach-next : (S : ℕ) (set set′ : StateSet) (j c : ℕ) → n ≤ 64 → m ≤ 32 → j < p .k → Reached S set j → c ≡ getD forward j 0
-      → set′ ≡ setOf (afterIn n m table c (set .mask)) → Reached S set′ (j + 1)
-  reach-next S set set′ j c hn hm l e b q = λ x f.
-      let l′ : j < length (x .forward) = omega (arith, f .k-is) in
-      let here : getD forward j 0 ≡ getD (x .forward) j 0 = ap (λ (t : List ℕ). getD t j 0) (forward-is x f) in
-      q
-      ∙ ap setOf
-      (after-limits n m table c (set .mask) hn hm
-      ∙ ap₂ (after d) (b ∙ here) (ap (λ (y : StateSet). y .mask) (e x f))
-      ∙ sym (reach-append d (2 ^ S) (take j (x .forward)) (getD (x .forward) j 0))
-      ∙ ap (reach d (2 ^ S)) (sym (take-suc (x .forward) j 0 l′) ∙ ap (λ (y : ℕ). take y (x .forward)) (sym (add-one j))))
+  pub reach-next : (S units : ℕ) (x x′ : Counted) (j c : ℕ) → n ≤ 64 → m ≤ 32 → j < p .k → Reached S units x j → c ≡ getD forward j 0
+      → x′ ≡ countedSet (afterIn n m table c (x .set .mask)) (x .units + 1) → Reached S units x′ (j + 1)
+  reach-next S units x x′ j c hn hm l e b q =
+      record {
+        count = omega (arith, ap (λ (z : Counted). z .units) q, e .count);
+        set-is =
+            λ y f.
+            let l′ : j < length (y .forward) = omega (arith, f .k-is) in
+            let here : getD forward j 0 ≡ getD (y .forward) j 0 = ap (λ (t : List ℕ). getD t j 0) (forward-is y f) in
+            ap (λ (z : Counted). z .set) q
+            ∙ ap setOf
+            (after-limits n m table c (x .set .mask) hn hm
+            ∙ ap₂ (after d) (b ∙ here) (ap (λ (z : StateSet). z .mask) (e .set-is y f))
+            ∙ sym (reach-append d (2 ^ S) (take j (y .forward)) (getD (y .forward) j 0))
+            ∙ ap (reach d (2 ^ S)) (sym (take-suc (y .forward) j 0 l′) ∙ ap (λ (k : ℕ). take k (y .forward)) (sym (add-one j))));
+      }
 
-  pub reach-all : (S : ℕ) (set set′ : StateSet) (j : ℕ) → p .k ≤ j → Reached S set j → set′ ≡ setOf (bitAnd (set .mask) (p .phi)) → Ended S (set′ .mask)
+  pub reach-all : (S units : ℕ) (x x′ : Counted) (j : ℕ) → j ≤ p .k → p .k ≤ j → Reached S units x j
+      → x′ ≡ countedSet (bitAnd (x .set .mask) (p .phi)) (x .units) → Ended S units x′
   unfolding ends
-  reach-all S set set′ j l e h = λ x f.
-      let l′ : length (x .forward) ≤ j = omega (arith, f .k-is) in
-      ap (λ (y : StateSet). y .mask) h
-      ∙ ap₂ bitAnd (ap (λ (y : StateSet). y .mask) (e x f) ∙ ap (reach d (2 ^ S)) (take-all j (x .forward) l′)) (f .phi-is)
+  reach-all S units x x′ j g l e h =
+      record {
+        count = omega (arith, ap (λ (z : Counted). z .units) h, e .count);
+        ends-are =
+            λ y f.
+            let l′ : length (y .forward) ≤ j = omega (arith, f .k-is) in
+            ap (λ (z : Counted). z .set .mask) h
+            ∙ ap₂ bitAnd (ap (λ (z : StateSet). z .mask) (e .set-is y f) ∙ ap (reach d (2 ^ S)) (take-all j (y .forward) l′)) (f .phi-is);
+      }
 
   -- ---- starts
-  pub none-passed : (psi start : ℕ) → psi ≡ p .psi → start ≡ lowestIn psi → Passed psi start false
-  unfolding reverses effective startUsed
-  none-passed psi start e l =
+  pub none-passed : (units psi start : ℕ) → psi ≡ p .psi → start ≡ lowestIn psi → Passed units psi start units false
+  unfolding reverses effective startUsed itemMade
+  none-passed units psi start e l =
       record {
         next = l;
         all-pass = λ x f. ap (gathered (allSoFar (startOk d x)) n true) (e ∙ f .psi-is) ∙ all-gathered (startOk d x) n (x .psi);
         some-used = λ x f. ap (gathered (someSoFar (hasEnd d x)) n false) (e ∙ f .psi-is) ∙ any-gathered (hasEnd d x) n (x .psi);
+        count = λ x f. ap (λ (w : ℕ). units + startsMade d x (present n w)) (e ∙ f .psi-is);
       }
 
-  module _ (rest start : ℕ) {used : Bool} (passed : Passed rest start used) where
+  module _ (before rest start units : ℕ) {used : Bool} (passed : Passed before rest start units used) where
     module _ (x : Item) (q : Fields s p x) where
       all-visiting : Visiting (allSoFar (startOk d x)) n (reverses d x) true rest start
       all-visiting = record { lowest = passed .next; gives = passed .all-pass x q }
@@ -103,18 +127,31 @@ module _ (n m : ℕ) (table s : List ℕ) (p : Place) where
       some-visiting = record { lowest = passed .next; gives = passed .some-used x q }
 
     -- all starts
-    pub starts-done : n ≤ start → (x : Item) → Fields s p x → (reverses d x ≡ true) × (effective d x ≡ used)
-    starts-done l x q = (
-      sym (visit-end (allSoFar (startOk d x)) n (reverses d x) true rest start (all-visiting x q) l),
-      sym (visit-end (someSoFar (hasEnd d x)) n (effective d x) used rest start (some-visiting x q) l),
-    )
+    pub starts-done : n ≤ start → (x : Item) → Fields s p x → (reverses d x ≡ true) × (effective d x ≡ used) × (units ≡ before + itemMade d x)
+    unfolding startsMade
+    starts-done l x q =
+        let none : present n rest ≡ [] = present-end n rest (omega (arith, passed .next)) in (
+          sym (visit-end (allSoFar (startOk d x)) n (reverses d x) true rest start (all-visiting x q) l),
+          sym (visit-end (someSoFar (hasEnd d x)) n (effective d x) used rest start (some-visiting x q) l),
+          let e = rw none at (passed .count x q) in omega arith,
+        )
 
-    module _ (hn : n ≤ 64) where
+    module _ (hn : n ≤ 64) (l : start < n) where
+      -- the units of this start, and of those after it
+      this-start : (x : Item) → Fields s p x
+          → units + (startMade d x start + pick (startOk d x start) (startsMade d x (present n (without rest start))) 0) ≡ before + itemMade d x
+      unfolding startsMade
+      this-start x q =
+          let split : present n rest ≡ start ∷ present n (without rest start)
+          = rw (passed .next) (present-next n rest hn (omega (arith, passed .next))) in
+          rw split at (passed .count x q)
+
       -- one start more, which passes, and is used or not
-      one-passed : (rest′ start′ : ℕ) → start < n → rest′ ≡ without rest start → start′ ≡ lowestIn rest′ → (used′ : Bool)
-          → ((x : Item) → Fields s p x → (startOk d x start ≡ true) × (someSoFar (hasEnd d x) used start ≡ used′)) → Passed rest′ start′ used′
-      unfolding both
-      one-passed rest′ start′ l e f used′ g =
+      one-passed : (rest′ start′ : ℕ) → rest′ ≡ without rest start → start′ ≡ lowestIn rest′ → (used′ : Bool) (units′ : ℕ)
+          → ((x : Item) → Fields s p x → (startOk d x start ≡ true) × (someSoFar (hasEnd d x) used start ≡ used′) × (units′ ≡ units + startMade d x start))
+          → Passed before rest′ start′ units′ used′
+      unfolding both pick
+      one-passed rest′ start′ e f used′ units′ g =
           record {
             next = f;
             all-pass =
@@ -125,9 +162,13 @@ module _ (n m : ℕ) (table s : List ℕ) (p : Place) where
                 λ x q.
                 ap (λ (b : Bool). gathered (someSoFar (hasEnd d x)) n b rest′) (sym (g x q .1))
                 ∙ visit-next (someSoFar (hasEnd d x)) n (effective d x) used rest start (some-visiting x q) hn rest′ start′ l e f .gives;
+            count =
+                λ x q.
+                let h = rw (g x q .0, ← e) at (this-start x q) in
+                omega (arith, g x q .2);
           }
 
-      module _ (w : ℕ) (all-ends : Ended start w) where
+      module _ (at : Counted) (all-ends : Ended start units at) where
         -- the part of the bytes that is lent to `runs_back`
         abbrev reverse : List ℕ
         reverse = take (p .reverse + p .r - p .reverse) (drop (p .reverse) s)
@@ -135,23 +176,37 @@ module _ (n m : ℕ) (table s : List ℕ) (p : Place) where
         reverse-is : (x : Item) → Fields s p x → reverse ≡ x .reverse
         reverse-is x f = let e : p .reverse + p .r - p .reverse ≡ p .r = omega arith in rw e (f .reverse-is)
 
-        module _ (l : start < n) where
-          pub start-none : (rest′ start′ : ℕ) → rest′ ≡ without rest start → start′ ≡ lowestIn rest′ → eqb w 0 ≡ true → Passed rest′ start′ used
+        module _ (back : Back) (run : back ≡ backOf d at reverse start) where
+          -- its units
+          made : (x : Item) → Fields s p x → back .units ≡ units + startMade d x start
+          unfolding startMade
+          made x q =
+              omega (arith, ap (λ (b : Back). b .units) run, ap₂ (backUnits d) (all-ends .ends-are x q) (reverse-is x q), all-ends .count, q .k-is)
+
+          pub start-none : (rest′ start′ : ℕ) → rest′ ≡ without rest start → start′ ≡ lowestIn rest′ → eqb (at .set .mask) 0 ≡ true
+              → Passed before rest′ start′ (back .units) used
           unfolding startOk imp
           start-none rest′ start′ e f z =
-              one-passed rest′ start′ l e f used (λ x q. (rw (← all-ends x q, z), rw (← all-ends x q, z) (pick-self used)))
+              one-passed rest′ start′ e f used (back .units)
+              (λ x q. (rw (← all-ends .ends-are x q, z), rw (← all-ends .ends-are x q, z) (pick-self used), made x q))
 
-          pub start-back : (rest′ start′ : ℕ) → rest′ ≡ without rest start → start′ ≡ lowestIn rest′ → eqb w 0 ≡ false
-              → runsBack d w reverse start ≡ true → Passed rest′ start′ true
+          pub start-back : (rest′ start′ : ℕ) → rest′ ≡ without rest start → start′ ≡ lowestIn rest′ → eqb (at .set .mask) 0 ≡ false
+              → back .right ≡ true → Passed before rest′ start′ (back .units) true
           unfolding startOk imp
           start-back rest′ start′ e f z g =
-              one-passed rest′ start′ l e f true (λ x q. (rw (← all-ends x q, z, ← reverse-is x q, g), rw (← all-ends x q, z) (pick-either used true)))
+              let right : runsBack d (at .set .mask) reverse start ≡ true = sym (ap (λ (b : Back). b .right) run) ∙ g in
+              one-passed rest′ start′ e f true (back .units)
+              (λ x q. (rw (← all-ends .ends-are x q, z, ← reverse-is x q, right), rw (← all-ends .ends-are x q, z) (pick-either used true), made x q))
 
-          pub start-fails : eqb w 0 ≡ false → runsBack d w reverse start ≡ false → (x : Item) → Fields s p x → reverses d x ≡ false
-          unfolding startOk imp both
+          pub start-fails : eqb (at .set .mask) 0 ≡ false → back .right ≡ false → (x : Item) → Fields s p x
+              → (reverses d x ≡ false) × (back .units ≡ before + itemMade d x)
+          unfolding startOk imp both pick
           start-fails z g x q =
               let rest′ = without rest start in
-              let fails : startOk d x start ≡ false = rw (← all-ends x q, z, ← reverse-is x q, g) in
-              sym (visit-next (allSoFar (startOk d x)) n (reverses d x) true rest start (all-visiting x q) hn rest′ (lowestIn rest′) l refl refl .gives)
-              ∙ ap (λ (b : Bool). gathered (allSoFar (startOk d x)) n b rest′) fails
-              ∙ all-failed (startOk d x) n rest′
+              let wrong : runsBack d (at .set .mask) reverse start ≡ false = sym (ap (λ (b : Back). b .right) run) ∙ g in
+              let fails : startOk d x start ≡ false = rw (← all-ends .ends-are x q, z, ← reverse-is x q, wrong) in (
+                sym (visit-next (allSoFar (startOk d x)) n (reverses d x) true rest start (all-visiting x q) hn rest′ (lowestIn rest′) l refl refl .gives)
+                    ∙ ap (λ (b : Bool). gathered (allSoFar (startOk d x)) n b rest′) fails
+                    ∙ all-failed (startOk d x) n rest′,
+                let h = rw fails at (this-start x q) in omega (arith, made x q),
+              )

@@ -1,18 +1,21 @@
--- The judgement of a book's items: the loop over them, and the place of a record. Assumes nothing.
+-- The judgement of a book's items: the loop over them, the units made, and the place of a record. Assumes nothing.
 use mathlib.Core.Path.{_≡_, refl, sym, ap, ap₂, _∙_}
 use mathlib.Core.Bool.{Bool, true, false, not}
 use mathlib.Core.List.{List, [], _∷_, _++_, map}
 use Prim.Native.Nat.{ℕ, suc, _+_, _-_, _≤_, _<_}
 use native.Mathlib.Numerals.{add-one}
 use native.Mathlib.Omega.{arith}
-use lib.ListN.{length, take, drop, length-append, length-drop, take-append-drop}
+use lib.ListN.{length, take, drop, length-append, length-drop, take-append-drop, drop-of-length-le}
+use lib.Seq.{drop-cons}
 use Rattle.base.specs.Tests.{pick, both}
 use Rattle.base.specs.Bounded.{seek}
 use Rattle.base.proofs.Picks.{less-yes, less-no}
 use Rattle.reversal.specs.Device.{Device}
 use Rattle.reversal.specs.Reversal.{Item}
-use Rattle.reversal.specs.Chains.{item}
+use Rattle.reversal.specs.Chains.{absent, item}
 use Rattle.reversal.specs.Computed.Sets.{reverses, effective, accepts}
+use Rattle.reversal.specs.Computed.Units.{itemMade, itemsMade}
+use Rattle.reversal.proofs.Units.{items-most, sum-bound}
 use Rattle.book.specs.Book.{Book, deviceOf, AllowedBook, bytesOf, itemRec, frame, framed}
 use Rattle.book.proofs.Scanning.{book-length}
 use Rattle.items.specs.Items.{Begins, ItemStands}
@@ -20,9 +23,11 @@ use Rattle.items.proofs.Laws.{in-book}
 use Rattle.items.proofs.Walk.{one-more, all-passed}
 use Rattle.checker.specs.declared.Reason.{Reason}
 use Rattle.checker.specs.declared.Reason.the-variants.{NoReversePlan, NotEffective}
+use Rattle.checker.specs.declared.Judgement.{Judgement}
 use Rattle.checker.specs.declared.Judgement.the-variants.{AllAccepted, Wrong}
+use Rattle.checker.specs.declared.JudgementMade.{JudgementMade}
 use Rattle.checker.specs.Checks.{placeOf}
-use Rattle.checker.specs.Contract.{wrongItem, reasonFor, reasonIn, judgementOf}
+use Rattle.checker.specs.Contract.{wrongItem, reasonFor, reasonIn, judgementOf, unitsOf}
 
 -- ---- the place of a record: what stands before it is the book with the items before it
 sizes : (xs ys : List Item) → length (framed (map itemRec (xs ++ ys))) ≡ length (framed (map itemRec xs)) + length (framed (map itemRec ys))
@@ -79,40 +84,74 @@ module _ (d : Device) (x : Item) where
 abbrev pub wrongAt : Device → Book → ℕ → Bool
 wrongAt d b i = not (accepts d (item (b .items) i))
 
--- the walk stands at an item's record, or past the last: what is left to judge gives the whole
-pub record Walking (d : Device) (s : List ℕ) (b : Book) (at : ℕ) : Type 0 where
+-- a judgement with its units
+abbrev pub judging : Judgement → ℕ → JudgementMade
+judging found units = record { found = found; units = units }
+
+-- the walk stands at an item's record, or past the last: what is left to judge gives the whole, and so do the units
+pub record Walking (d : Device) (s : List ℕ) (b : Book) (at units : ℕ) : Type 0 where
   pub number : ℕ
   pub known : number ≤ length (b .items)
   pub here : Begins s b number at
   pub left : seek (wrongAt d b) number (length (b .items) - number) ≡ seek (wrongAt d b) 0 (length (b .items))
+  pub count : units + itemsMade d (drop number (b .items)) ≡ itemsMade d (b .items)
 
 module _ (d : Device) (s : List ℕ) (b : Book) where
-  pub at-first : (at : ℕ) → Begins s b 0 at → Walking d s b at
-  at-first at q = let e : length (b .items) - 0 ≡ length (b .items) = omega arith in record { number = 0; known = omega arith; here = q; left = rw e }
+  pub at-first : (at : ℕ) → Begins s b 0 at → Walking d s b at 0
+  at-first at q =
+      let e : length (b .items) - 0 ≡ length (b .items) = omega arith in
+      record { number = 0; known = omega arith; here = q; left = rw e; count = omega arith }
 
-  module _ (a : AllowedBook b) (e : bytesOf b ≡ s) (at : ℕ) (w : Walking d s b at) where
+  module _ (a : AllowedBook b) (e : bytesOf b ≡ s) (at units : ℕ) (w : Walking d s b at units) where
     pub stands : at < length s → ItemStands s b (w .number) at
     stands h = one-more a e (w .known) (w .here) h
 
-    pub at-next : (h : at < length s) (next : ℕ) → Begins s b (w .number + 1) next → accepts d (item (b .items) (w .number)) ≡ true → Walking d s b next
-    unfolding seek pick
-    at-next h next q f =
-        let l : length (b .items) - w .number ≡ suc (length (b .items) - (w .number + 1)) = omega (arith, stands h .known) in
-        record { number = w .number + 1; known = omega (arith, stands h .known); here = q; left = rw add-one (rw (l, ap not f, add-one) at (w .left)) }
+    abbrev x : Item
+    x = item (b .items) (w .number)
+
+    module _ (h : at < length s) where
+      -- the units of this item, and of those after it
+      this-item : units + (itemMade d x + pick (accepts d x) (itemsMade d (drop (w .number + 1) (b .items))) 0) ≡ itemsMade d (b .items)
+      unfolding itemsMade
+      this-item =
+          let split : drop (w .number) (b .items) ≡ x ∷ drop (w .number + 1) (b .items) = rw add-one (drop-cons (b .items) (w .number) absent (stands h .known)) in
+          rw split at (w .count)
+
+      -- they are few
+      pub few-units : d .n ≤ 64 → units + itemMade d x ≤ 65536
+      few-units few = omega (arith, this-item, items-most d (b .items), sum-bound (d .n) (deviceOf b) (b .items) few (a .each-item), a .few)
+
+      pub at-next : (next : ℕ) → Begins s b (w .number + 1) next → accepts d x ≡ true → (units′ : ℕ) → units′ ≡ units + itemMade d x → Walking d s b next units′
+      unfolding seek pick
+      at-next next q f units′ u =
+          let l : length (b .items) - w .number ≡ suc (length (b .items) - (w .number + 1)) = omega (arith, stands h .known) in
+          record {
+            number = w .number + 1;
+            known = omega (arith, stands h .known);
+            here = q;
+            left = rw add-one (rw (l, ap not f, add-one) at (w .left));
+            count = let g = rw f at this-item in omega arith;
+          }
 
     module _ (device : d ≡ deviceOf b) where
-      pub none-wrong : length s ≤ at → AllAccepted ≡ judgementOf b
-      unfolding wrongItem seek
+      pub none-wrong : length s ≤ at → judging AllAccepted units ≡ judging (judgementOf b) (unitsOf b)
+      unfolding wrongItem seek itemsMade
       none-wrong h =
           let all = all-passed a e (w .known) (w .here) h in
           let z : length (b .items) - w .number ≡ 0 = omega arith in
           let i : w .number ≡ wrongItem b = rw (z, device) at (w .left) in
-          sym (all-accepted b (omega arith))
+          let past : length (b .items) ≤ w .number = omega arith in
+          let none : drop (w .number) (b .items) ≡ [] = drop-of-length-le (b .items) past in
+          let c : units + 0 ≡ unitsOf b = rw (none, device) at (w .count) in
+          ap₂ judging (sym (all-accepted b (omega arith))) (omega arith)
 
-      pub found : (h : at < length s) (why : Reason) → TurnedDown d (item (b .items) (w .number)) why → Wrong at why ≡ judgementOf b
+      pub found : (h : at < length s) (why : Reason) → TurnedDown d x why → (units′ : ℕ) → units′ ≡ units + itemMade d x
+          → judging (Wrong at why) units′ ≡ judging (judgementOf b) (unitsOf b)
       unfolding wrongItem seek pick
-      found h why (f, r) =
+      found h why (f, r) units′ u =
           let l : length (b .items) - w .number ≡ suc (length (b .items) - (w .number + 1)) = omega (arith, stands h .known) in
           let i : w .number ≡ wrongItem b = rw (l, ap not f, device) at (w .left) in
           let here : reasonIn b ≡ why = rw (← i, ← device) r in
-          ap₂ Wrong (place-is (stands h) ∙ ap (placeOf b) i) (sym here) ∙ sym (one-wrong b (omega (arith, stands h .known)))
+          let g : units + (itemMade d x + 0) ≡ itemsMade d (b .items) = rw f at (this-item h) in
+          let c : itemsMade d (b .items) ≡ unitsOf b = ap (λ (y : Device). itemsMade y (b .items)) device in
+          ap₂ judging (ap₂ Wrong (place-is (stands h) ∙ ap (placeOf b) i) (sym here) ∙ sym (one-wrong b (omega (arith, stands h .known)))) (omega arith)

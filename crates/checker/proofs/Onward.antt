@@ -12,21 +12,21 @@ use Rattle.book.specs.Parse.{parse}
 use Rattle.book.specs.Parse.Parsed.{Ok}
 use Rattle.book.specs.Buffers.{lentOf}
 use Rattle.book.proofs.Reading.{parse-bytes}
-use Rattle.reader.specs.declared.Reading.{Reading}
 use Rattle.reader.specs.Reads.{done}
 use Rattle.reader.proofs.Ways.{Way, by-short, by-fault, by-book, way, when-short, when-faulty, when-fine}
-use Rattle.checker.specs.Checks.{AcceptedBook}
-use Rattle.checker.specs.Contract.{wrongItem, judgedBy, checkBy, CheckAs}
+use Rattle.checker.specs.declared.Checking.{Checking}
+use Rattle.checker.specs.Checks.{AcceptedBook, withUnits}
+use Rattle.checker.specs.Contract.{wrongItem, judgedBy, unitsOf, checkBy, CheckAs}
 use Rattle.checker.proofs.Exactly.{by-wrong, by-none, none-wrong, result-short, result-faulty, result-wrong, result-fine, checks}
 use Rattle.checker.proofs.Unique.{zero↔}
 
 -- a book was checked, and accepted
-pub record BookChecked (s : List ℕ) (l : Lent) (r : Reading) (l′ : Lent) : Type 0 where
+pub record BookChecked (s : List ℕ) (l : Lent) (r : Checking) (l′ : Lent) : Type 0 where
   pub book : Book
   pub long : LongEnough (sizes l)
   pub parsed : parse s ≡ Ok book
   pub accepted : AcceptedBook s book
-  pub result : r ≡ done book
+  pub result : r ≡ withUnits (done book) (unitsOf book)
   pub buffers : l′ ≡ lentOf book l
 
 -- what a caller does with an accepted book
@@ -37,7 +37,7 @@ accepted-by s l refuse fine k b a =
     when-fine s l refuse (judgedBy refuse fine) k b (ap parse (sym (a .bytes)) ∙ parse-bytes b (a .allowed))
     ∙ by-none b (none-wrong b (a .allowed) (a .accepted)) refuse (fine b)
 
-module _ {s : List ℕ} {l : Lent} {r : Reading} {l′ : Lent} (c : CheckAs s l r l′) where
+module _ {s : List ℕ} {l : Lent} {r : Checking} {l′ : Lent} (c : CheckAs s l r l′) where
   pub book-checked : r .code ≡ 0 → BookChecked s l r l′
   book-checked e =
       let (k, (b, a)) = zero↔ (c .bytes) (checks c) .0 e in
@@ -64,8 +64,8 @@ module _ {s : List ℕ} {l : Lent} {r : Reading} {l′ : Lent} (c : CheckAs s l 
     unfolding checkBy
     unchecked-by n = go (way s l)
       where
-        at : {x : Reading} → r ≡ x → (r .code ≡ x .code) × (r .place ≡ x .place)
-        at e = (ap (λ (y : Reading). y .code) e, ap (λ (y : Reading). y .place) e)
+        at : {x : Checking} → r ≡ x → (r .code ≡ x .code) × (r .place ≡ x .place)
+        at e = (ap (λ (y : Checking). y .code) e, ap (λ (y : Checking). y .place) e)
 
         judged : LongEnough (sizes l) → (b : Book) → parse s ≡ Ok b → Dec (wrongItem b < length (b .items)) → checkBy s l refuse fine ≡ refuse (r .code) (r .place)
         judged k b e (yes h) =

@@ -1,10 +1,12 @@
--- What 01 and 02 say of checking leaves one answer only: the result and the buffers. So it answers 0 exactly on accepted books, and 8 or 12 exactly
--- where a book keeps the rules and some item is not accepted, the first such one being at the place, with its own reason. Assumes nothing.
-use mathlib.Core.Path.{_≡_, refl, sym, ap, ap₂, _∙_, subst}
+-- What 01 and 02 say of checking leaves one answer only: the result with its units, and the buffers. So it answers 0 exactly on accepted books, and 8
+-- or 12 exactly where a book keeps the rules and some item is not accepted, the first such one being at the place, with its own reason.
+-- Assumes nothing.
+use mathlib.Core.Path.{_≡_, refl, sym, ap, ap₂, _∙_, subst, subst₂}
 use mathlib.Core.Logic.{inl, inr, _↔_}
 use mathlib.Core.List.{List}
-use Prim.Native.Nat.{ℕ, _<_}
+use Prim.Native.Nat.{ℕ, suc, _+_, _≤_, _<_}
 use native.Mathlib.Omega.{arith}
+use lib.ListN.{length, take}
 use Rattle.base.specs.Lists.{Bytes}
 use Rattle.base.specs.Sizes.{LongEnough}
 use Rattle.base.proofs.Lists.{each-at}
@@ -12,6 +14,8 @@ use Rattle.base.proofs.Lowest.{one-lowest}
 use Rattle.reversal.specs.Device.{Device}
 use Rattle.reversal.specs.Reversal.{Item, Accepted}
 use Rattle.reversal.specs.Chains.{absent, item}
+use Rattle.reversal.specs.Units.{sumUnits}
+use Rattle.reversal.proofs.Units.{to-failure-unique, to-failure-within, sum-next, sum-front}
 use Rattle.book.specs.Book.{Book, deviceOf, AllowedBook, bytesOf}
 use Rattle.book.specs.Lent.{Lent, sizes}
 use Rattle.book.proofs.Codes.{ReadCode, refusal-codes}
@@ -20,10 +24,11 @@ use Rattle.reader.specs.declared.Reading.{Reading}
 use Rattle.reader.specs.Reads.{refusal, done, Filled, Reads}
 use Rattle.reader.specs.Reads as reads
 use Rattle.reader.proofs.Unique.{same-filled, reads-unique, zero↔ as read-zero↔}
+use Rattle.checker.specs.declared.Checking.{Checking}
 use Rattle.checker.specs.declared.Reason.{Reason}
 use Rattle.checker.specs.declared.Reason.the-variants.{NoReversePlan, NotEffective}
 use Rattle.checker.specs.Reasons.{codeOf, Due}
-use Rattle.checker.specs.Checks.{AllAccepted, AcceptedBook, placeOf, FirstWrong, WrongFor, Checked, Checks, unread, wrong, fine}
+use Rattle.checker.specs.Checks.{AllAccepted, AcceptedBook, placeOf, FirstWrong, WrongFor, UnitsMade, Checked, withUnits, Checks, unread, wrong, fine}
 
 one-wrong : (b : Book) {i j : ℕ} → FirstWrong b i → FirstWrong b j → i ≡ j
 one-wrong b f g = one-lowest f g
@@ -60,6 +65,23 @@ same-wrong b {i} {j} {why} {other} f g =
     let e : i ≡ j = one-wrong b (f .first) (g .first) in
     (e, due-unique (deviceOf b) (item (b .items) j) why other (subst (λ (k : ℕ). Due why (deviceOf b) (item (b .items) k)) e (f .due)) (g .due))
 
+-- and the units made are one number
+pub made-unique : (b : Book) (i : ℕ) (why : Reason) {u v : ℕ} → UnitsMade b i why u → UnitsMade b i why v → u ≡ v
+made-unique b i NoReversePlan (h, p, e) (k, q, f) =
+    e ∙ ap (λ (x : ℕ). sumUnits (b .n) (take i (b .items)) + x) (to-failure-unique (deviceOf b) (item (b .items) i) p q) ∙ sym f
+made-unique b i NotEffective e f = e ∙ sym f
+
+-- 02: "at most the forecast on 8 or 12"
+made-within : (b : Book) (i : ℕ) (why : Reason) → i < length (b .items) → {u : ℕ} → UnitsMade b i why u → u ≤ sumUnits (b .n) (b .items)
+made-within b i NoReversePlan l (h, p, e) =
+    omega (
+      arith,
+      to-failure-within (deviceOf b) (item (b .items) i) p,
+      sum-next (b .n) (b .items) i l,
+      sum-front (b .n) (b .items) (suc i),
+    )
+made-within b i NotEffective l e = omega (arith, sum-front (b .n) (b .items) (suc i))
+
 read-codes : {book : List ℕ} {l : Lent} {r : Reading} {l′ : Lent} → Reads book l r l′ → ReadCode (r .code)
 read-codes (reads.short a e k) = inl (omega (arith, ap (λ (x : Reading). x .code) e))
 read-codes {book} (reads.faulty l f e k) = subst (λ (x : Reading). ReadCode (x .code)) (sym e) (refusal-codes book _ _ f .1)
@@ -71,6 +93,10 @@ was-read {b = b} h x n f = n (read-zero↔ h x .1 (f .long, (b, f .allowed, f .b
 this-book : {book : List ℕ} {l l′ : Lent} {b b′ : Book} → AllowedBook b → bytesOf b ≡ book → Filled book l b′ l′ → b′ ≡ b
 this-book {b = b} {b′ = b′} a same f = one-book b′ b (f .allowed) a (f .bytes ∙ sym same)
 
+unread-not : {book : List ℕ} {l : Lent} {q : Reading} {l′ : Lent} → Bytes book → Reads book l q l′ → (q .code ≡ 0 → ⊥) → LongEnough (sizes l)
+    → {b : Book} → AllowedBook b → bytesOf b ≡ book → ⊥
+unread-not h x n w {b} a same = n (read-zero↔ h x .1 (w, (b, a, same)))
+
 pub accepted-book : {book : List ℕ} {l : Lent} {b : Book} {l′ : Lent} → Checked book l b l′ → AcceptedBook book b
 accepted-book k = record { allowed = k .filled .allowed; bytes = k .filled .bytes; accepted = k .accepted }
 
@@ -79,9 +105,9 @@ pub data CheckCode : ℕ → Type 0 where
   by-reading : {code : ℕ} → ReadCode code → CheckCode code
   by-item : (why : Reason) → CheckCode (codeOf why)
 
-pub check-codes : {book : List ℕ} {l : Lent} {r : Reading} {l′ : Lent} → Checks book l r l′ → CheckCode (r .code)
-check-codes (unread x n) = by-reading (read-codes x)
-check-codes (wrong b f {why = why} w e) = rw e (by-item why)
+pub check-codes : {book : List ℕ} {l : Lent} {r : Checking} {l′ : Lent} → Checks book l r l′ → CheckCode (r .code)
+check-codes (unread x n e) = rw e (by-reading (read-codes x))
+check-codes (wrong b f {why = why} w u e) = rw e (by-item why)
 check-codes (fine b k e) = rw e (by-reading {code = 0} (inl (omega arith)))
 
 -- and so never that of assembling's "no chain"
@@ -91,46 +117,58 @@ not-eleven (by-reading (inr l)) e = omega arith
 not-eleven (by-item NoReversePlan) e = omega arith
 not-eleven (by-item NotEffective) e = omega arith
 
-module _ {book : List ℕ} {l : Lent} {r : Reading} {l′ : Lent} (h : Bytes book) where
-  pub checks-unique : {q : Reading} {l″ : Lent} → Checks book l r l′ → Checks book l q l″ → (r ≡ q) × (l′ ≡ l″)
-  checks-unique (unread x n) (unread y n′) = reads-unique h x y
-  checks-unique (unread x n) (wrong b f w e) = absurd (was-read h x n f)
-  checks-unique (unread x n) (fine b k e) = absurd (was-read h x n (k .filled))
-  checks-unique (wrong b f w e) (unread y n) = absurd (was-read h y n f)
-  checks-unique (wrong b f {i} {why} w e) (wrong b′ g v e′) =
+module _ {book : List ℕ} {l : Lent} {r : Checking} {l′ : Lent} (h : Bytes book) where
+  pub checks-unique : {q : Checking} {l″ : Lent} → Checks book l r l′ → Checks book l q l″ → (r ≡ q) × (l′ ≡ l″)
+  checks-unique (unread x n e) (unread y n′ e′) =
+      let (q, p) = reads-unique h x y in
+      (e ∙ (ap (λ (z : Reading). withUnits z 0) q ∙ sym e′), p)
+  checks-unique (unread x n e) (wrong b f w u e′) = absurd (was-read h x n f)
+  checks-unique (unread x n e) (fine b k e′) = absurd (was-read h x n (k .filled))
+  checks-unique (wrong b f w u e) (unread y n e′) = absurd (was-read h y n f)
+  checks-unique (wrong b f {i} {why} w {units} u e) (wrong b′ g {i = j} {why = other} v {units = vnits} t e′) =
       let (x, p) = same-filled f g in
       let (y, z) = same-wrong b′ (subst (λ (c : Book). WrongFor c i why) x w) v in
-      (e ∙ (ap (λ (c : Book). refusal (codeOf why) (placeOf c i)) x ∙ (ap₂ (λ (c : Reason) (j : ℕ). refusal (codeOf c) (placeOf b′ j)) z y ∙ sym e′)), p)
-  checks-unique (wrong b f {i} {why} w e) (fine b′ k e′) =
+      let here : UnitsMade b′ j other units = subst₂ (λ (k : ℕ) (c : Reason). UnitsMade b′ k c units) y z (subst (λ (c : Book). UnitsMade c i why units) x u) in (
+        e
+            ∙ (ap (λ (c : Book). withUnits (refusal (codeOf why) (placeOf c i)) units) x
+            ∙ (ap₂ (λ (c : Reason) (k : ℕ). withUnits (refusal (codeOf c) (placeOf b′ k)) units) z y
+            ∙ (ap (withUnits (refusal (codeOf other) (placeOf b′ j))) (made-unique b′ j other here t) ∙ sym e′))),
+        p,
+      )
+  checks-unique (wrong b f {i} {why} w u e) (fine b′ k e′) =
       let (x, p) = same-filled f (k .filled) in
       absurd (none-wrong b′ (subst (λ (c : Book). WrongFor c i why) x w .first) (k .accepted))
-  checks-unique (fine b k e) (unread y n) = absurd (was-read h y n (k .filled))
-  checks-unique (fine b k e) (wrong b′ g {i} {why} w e′) =
+  checks-unique (fine b k e) (unread y n e′) = absurd (was-read h y n (k .filled))
+  checks-unique (fine b k e) (wrong b′ g {i} {why} w u e′) =
       let (x, p) = same-filled g (k .filled) in
       absurd (none-wrong b (subst (λ (c : Book). WrongFor c i why) x w .first) (k .accepted))
   checks-unique (fine b k e) (fine b′ k′ e′) =
       let (x, p) = same-filled (k .filled) (k′ .filled) in
-      (e ∙ (ap done x ∙ sym e′), p)
+      (e ∙ (ap (λ (c : Book). withUnits (done c) (sumUnits (c .n) (c .items))) x ∙ sym e′), p)
 
   -- ---- the answer for a book that is known
-  unread-not : Reads book l r l′ → (r .code ≡ 0 → ⊥) → LongEnough (sizes l) → {b : Book} → AllowedBook b → bytesOf b ≡ book → ⊥
-  unread-not x n w {b} a same = n (read-zero↔ h x .1 (w, (b, a, same)))
-
-  pub checked-fine : Checks book l r l′ → LongEnough (sizes l) → {b : Book} → AcceptedBook book b → (r ≡ done b) × Checked book l b l′
-  checked-fine (unread x n) long a = absurd (unread-not x n long (a .allowed) (a .bytes))
-  checked-fine (wrong b′ f {i} {why} w e) long {b} a =
+  pub checked-fine : Checks book l r l′ → LongEnough (sizes l) → {b : Book} → AcceptedBook book b
+      → (r ≡ withUnits (done b) (sumUnits (b .n) (b .items))) × Checked book l b l′
+  checked-fine (unread x n e) long a = absurd (unread-not h x n long (a .allowed) (a .bytes))
+  checked-fine (wrong b′ f {i} {why} w u e) long {b} a =
       absurd (none-wrong b (subst (λ (c : Book). WrongFor c i why) (this-book (a .allowed) (a .bytes) f) w .first) (a .accepted))
   checked-fine (fine b′ k e) long {b} a =
       let x : b′ ≡ b = this-book (a .allowed) (a .bytes) (k .filled) in
-      (e ∙ ap done x, subst (λ (z : Book). Checked book l z l′) x k)
+      (e ∙ ap (λ (c : Book). withUnits (done c) (sumUnits (c .n) (c .items))) x, subst (λ (z : Book). Checked book l z l′) x k)
 
   pub checked-wrong : Checks book l r l′ → LongEnough (sizes l) → {b : Book} → AllowedBook b → bytesOf b ≡ book → {i : ℕ} {why : Reason} → WrongFor b i why
-      → (r ≡ refusal (codeOf why) (placeOf b i)) × Filled book l b l′
-  checked-wrong (unread x n) long a same w = absurd (unread-not x n long a same)
-  checked-wrong (wrong b′ f {i = j} {why = other} v e) long {b} a same w =
+      → ((units : ℕ) × UnitsMade b i why units × (r ≡ withUnits (refusal (codeOf why) (placeOf b i)) units)) × Filled book l b l′
+  checked-wrong (unread x n e) long a same w = absurd (unread-not h x n long a same)
+  checked-wrong (wrong b′ f {i = j} {why = other} v {units} u e) long {b} a same {i} {why} w =
       let x : b′ ≡ b = this-book a same f in
       let (y, z) = same-wrong b (subst (λ (c : Book). WrongFor c j other) x v) w in (
-        e ∙ (ap (λ (c : Book). refusal (codeOf other) (placeOf c j)) x ∙ ap₂ (λ (c : Reason) (k : ℕ). refusal (codeOf c) (placeOf b k)) z y),
+        (
+          units,
+          subst₂ (λ (k : ℕ) (c : Reason). UnitsMade b k c units) y z (subst (λ (c : Book). UnitsMade c j other units) x u),
+          e
+              ∙ (ap (λ (c : Book). withUnits (refusal (codeOf other) (placeOf c j)) units) x
+              ∙ ap₂ (λ (c : Reason) (k : ℕ). withUnits (refusal (codeOf c) (placeOf b k)) units) z y),
+        ),
         subst (λ (c : Book). Filled book l c l′) x f,
       )
   checked-wrong (fine b′ k e) long {b} a same w =
@@ -138,15 +176,15 @@ module _ {book : List ℕ} {l : Lent} {r : Reading} {l′ : Lent} (h : Bytes boo
 
   -- ---- exactly
   module _ (x : Checks book l r l′) where
-    code-of : {q : Reading} → r ≡ q → r .code ≡ q .code
-    code-of e = ap (λ (y : Reading). y .code) e
+    code-of : {q : Reading} {units : ℕ} → r ≡ withUnits q units → r .code ≡ q .code
+    code-of e = ap (λ (y : Checking). y .code) e
 
     pub zero↔ : (r .code ≡ 0) ↔ (LongEnough (sizes l) × ((b : Book) × AcceptedBook book b))
     zero↔ = ((λ z. forth z x), λ (long, (b, a)). code-of (checked-fine x long a .0))
       where
         forth : r .code ≡ 0 → Checks book l r l′ → LongEnough (sizes l) × ((b : Book) × AcceptedBook book b)
-        forth z (unread y n) = absurd (n z)
-        forth z (wrong b f {why = why} w e) = absurd (omega (arith, code-of e, over-seven why))
+        forth z (unread y n e) = absurd (n (sym (code-of e) ∙ z))
+        forth z (wrong b f {why = why} w u e) = absurd (omega (arith, code-of e, over-seven why))
         forth z (fine b k e) = (k .filled .long, (b, accepted-book k))
 
     -- with the code of a reason, a book was read whose first wrong item has that reason
@@ -155,8 +193,30 @@ module _ {book : List ℕ} {l : Lent} {r : Reading} {l′ : Lent} (h : Bytes boo
     wrong-for why z = go x
       where
         go : Checks book l r l′ → LongEnough (sizes l) × ((b : Book) × AllowedBook b × (bytesOf b ≡ book) × ((i : ℕ) × WrongFor b i why))
-        go (unread y n) = absurd (no-reading why (subst ReadCode z (read-codes y)))
-        go (wrong b f {i} {why = other} w e) =
+        go (unread y n e) = absurd (no-reading why (subst ReadCode (sym (code-of e) ∙ z) (read-codes y)))
+        go (wrong b f {i} {why = other} w u e) =
             let q : other ≡ why = same-code other why (sym (code-of e) ∙ z) in
             (f .long, (b, f .allowed, f .bytes, (i, subst (λ (c : Reason). WrongFor b i c) q w)))
         go (fine b k e) = absurd (omega (arith, code-of e, over-seven why))
+
+    -- and with no code of a reason and not 0, no units
+    pub no-units : (r .code ≡ 0 → ⊥) → ((why : Reason) → r .code ≡ codeOf why → ⊥) → r .units ≡ 0
+    no-units z w = go x
+      where
+        go : Checks book l r l′ → r .units ≡ 0
+        go (unread y n e) = ap (λ (c : Checking). c .units) e
+        go (wrong b f {why = why} v u e) = absurd (w why (code-of e))
+        go (fine b k e) = absurd (z (code-of e))
+
+    -- no more than the sum over all items
+    pub units-within : {b : Book} → AllowedBook b → bytesOf b ≡ book → r .units ≤ sumUnits (b .n) (b .items)
+    units-within {b} a same = go x
+      where
+        go : Checks book l r l′ → r .units ≤ sumUnits (b .n) (b .items)
+        go (unread y n e) = omega (arith, ap (λ (c : Checking). c .units) e)
+        go (wrong b′ f {i} {why} w {units} u e) =
+            let q : b′ ≡ b = this-book a same f in
+            omega (arith, ap (λ (c : Checking). c .units) e, subst (λ (c : Book). units ≤ sumUnits (c .n) (c .items)) q (made-within b′ i why (w .first .inside) u))
+        go (fine b′ k e) =
+            let q : b′ ≡ b = this-book a same (k .filled) in
+            omega (arith, ap (λ (c : Checking). c .units) e, ap (λ (c : Book). sumUnits (c .n) (c .items)) q)

@@ -2,7 +2,7 @@
 use mathlib.Core.Path.{_≡_}
 use mathlib.Core.Bool.{not}
 use mathlib.Core.List.{List}
-use Prim.Native.Nat.{ℕ, _<_}
+use Prim.Native.Nat.{ℕ, _+_, _<_}
 use lib.ListN.{length}
 use Rattle.base.specs.Lists.{Each}
 use Rattle.base.specs.Tests.{pick}
@@ -11,18 +11,27 @@ use Rattle.base.specs.Bounded.{seek}
 use Rattle.reversal.specs.Device.{Device}
 use Rattle.reversal.specs.Reversal.{Item}
 use Rattle.reversal.specs.Chains.{item}
-use Rattle.reversal.specs.Computed.Sets.{reverses, accepts}
+use Rattle.reversal.specs.Computed.Sets.{runsBack, reverses, accepts}
+use Rattle.reversal.specs.Computed.Units.{backUnits, itemsMade}
 use Rattle.book.specs.Book.{Book, deviceOf, AllowedBook, bytesOf}
 use Rattle.book.specs.Lent.{Lent}
-use Rattle.reader.specs.declared.Reading.{Reading}
 use Rattle.reader.specs.Reads.{refusal, done}
 use Rattle.reader.specs.Contract.{readBy, lentBy}
+use Rattle.checker.specs.declared.counted.Counted.{Counted}
+use Rattle.checker.specs.declared.Back.{Back}
+use Rattle.checker.specs.declared.Checking.{Checking}
+use Rattle.checker.specs.declared.JudgementMade.{JudgementMade}
 use Rattle.checker.specs.declared.Reason.{Reason}
 use Rattle.checker.specs.declared.Reason.the-variants.{NoReversePlan, NotEffective}
 use Rattle.checker.specs.declared.Judgement.{Judgement}
 use Rattle.checker.specs.declared.Judgement.the-variants.{AllAccepted, Wrong}
 use Rattle.checker.specs.Reasons.{codeOf}
-use Rattle.checker.specs.Checks.{placeOf}
+use Rattle.checker.specs.Checks.{placeOf, withUnits}
+
+-- what a reverse run answers
+abbrev pub backOf : Device → Counted → List ℕ → ℕ → Back
+backOf d from commands goal =
+    record { right = runsBack d (from .set .mask) commands goal; units = from .units + backUnits d (from .set .mask) commands }
 
 -- the lowest item that is not accepted, or their number
 unfoldable pub wrongItem : Book → ℕ
@@ -40,9 +49,13 @@ reasonIn b = reasonFor (deviceOf b) (item (b .items) (wrongItem b))
 unfoldable pub judgementOf : Book → Judgement
 judgementOf b = pick (less (wrongItem b) (length (b .items))) (Wrong (placeOf b (wrongItem b)) (reasonIn b)) AllAccepted
 
+-- the units made for it
+abbrev pub unitsOf : Book → ℕ
+unitsOf b = itemsMade (deviceOf b) (b .items)
+
 -- the contract of `first_wrong`: book s, the device d in the table, answer r
-abbrev pub Judged : List ℕ → Device → Judgement → Type 0
-Judged s d r = (b : Book) → AllowedBook b → bytesOf b ≡ s → d ≡ deviceOf b → r ≡ judgementOf b
+abbrev pub Judged : List ℕ → Device → JudgementMade → Type 0
+Judged s d r = (b : Book) → AllowedBook b → bytesOf b ≡ s → d ≡ deviceOf b → r ≡ record { found = judgementOf b; units = unitsOf b }
 
 abbrev pub onJudgement : {A : Type 0} → Judgement → (ℕ → ℕ → A) → A → A
 onJudgement AllAccepted refuse fine = fine
@@ -56,8 +69,12 @@ judgedBy refuse fine b = onJudgement (judgementOf b) refuse (fine b)
 unfoldable pub checkBy : {A : Type 0} → List ℕ → Lent → (ℕ → ℕ → A) → (Book → A) → A
 checkBy s l refuse fine = readBy s l refuse (judgedBy refuse fine)
 
+-- the units made: none where the book is not read
+abbrev pub unitsBy : List ℕ → Lent → ℕ
+unitsBy s l = readBy s l (λ code place. 0) unitsOf
+
 -- the contract of `check`; the buffers are filled as by reading
-pub record CheckAs (s : List ℕ) (l : Lent) (r : Reading) (l′ : Lent) : Type 0 where
+pub record CheckAs (s : List ℕ) (l : Lent) (r : Checking) (l′ : Lent) : Type 0 where
   pub bytes : Each (λ x. x < 256) s
-  pub result : r ≡ checkBy s l refusal done
+  pub result : r ≡ withUnits (checkBy s l refusal done) (unitsBy s l)
   pub buffers : l′ ≡ lentBy s l

@@ -1,14 +1,18 @@
-// Checking a book: reading it, and judging its items one by one.
+// Checking a book: reading it, and judging its items one by one, with the units that this takes.
+mod counted;
+
+use counted::Counted;
 use reader::Reading;
 use states::StateSet;
 ghost use mathlib.Core.Path.{_≡_};
-ghost use Prim.Native.Nat.{_<_, _≤_};
+ghost use Prim.Native.Nat.{_+_, _^_, _<_, _≤_};
+ghost use lib.ListN.{length};
 ghost use Rattle.reversal.specs.Device.{tabled};
-ghost use Rattle.reversal.specs.Computed.Sets.{runsBack};
 ghost use Rattle.book.specs.Book.{WellFormed};
 ghost use Rattle.book.specs.Lent.{lent};
 ghost use Rattle.checker.specs.Reasons.{codeOf};
-ghost use Rattle.checker.specs.Contract.{Judged, CheckAs};
+ghost use Rattle.checker.specs.Checks.{withUnits};
+ghost use Rattle.checker.specs.Contract.{backOf, Judged, CheckAs};
 
 // Why an item is not accepted.
 pub enum Reason {
@@ -18,6 +22,17 @@ pub enum Reason {
     NotEffective,
 }
 
+// What checking answers: the code and its place; n, m and the number of items, each 0 on a refusal; the units made, 0 where no item was judged.
+#[repr(C)]
+pub struct Checking {
+    pub code: u64,
+    pub place: u64,
+    pub n: u64,
+    pub m: u64,
+    pub items: u64,
+    pub units: u64,
+}
+
 // What the judgement of all items answers.
 pub enum Judgement {
     AllAccepted,
@@ -25,31 +40,53 @@ pub enum Judgement {
     Wrong(u64, Reason),
 }
 
-// A reverse run: no command left and the goal alone in the set, or a next command that every state of the set can carry out, with the
-// rest run from the set after it.
-fn runs_back(set: StateSet, table: &[u64], n: u64, m: u64, commands: &[u8], goal: u64) -> bool
-    requires { ⌜ (n ≤ 64) × (m ≤ 32) × (goal < 64) ⌝ }
-    ensures { λ r. ⌜ r ≡ runsBack (tabled n m (now (table .entry))) (set .mask) (now (commands .entry)) goal ⌝ }
-{
-    if commands.len() == 0 {
-        return set.is_only(goal);
-    }
-    let command = octets::byte_at(commands, 0);
-    let next = set.sent(table, n, m, command);
-    if !next.able {
-        return false;
-    }
-    runs_back(next.set, table, n, m, &commands[1..], goal)
+// The judgement of all items, and the units made for it.
+struct JudgementMade {
+    found: Judgement,
+    units: u64,
 }
 
-// The first item that is not accepted, from the book's bytes. For each start in psi, the ends in phi are run back together; an item is
-// effective if some start is used, that is, has an end. The search is left as soon as one item fails.
-fn first_wrong(book: &[u8], table: &[u64], n: u64, m: u64) -> Judgement
+// What a reverse run answers: whether it ends with the goal alone in the set, and the units so far.
+struct Back {
+    right: bool,
+    units: u64,
+}
+
+// A reverse run: no command left and the goal alone in the set, or a next command that every state of the set can carry out, with the
+// rest run from the set after it.
+fn runs_back(from: Counted, table: &[u64], n: u64, m: u64, commands: &[u8], goal: u64) -> Back
+    requires { ⌜ (n ≤ 64) × (m ≤ 32) × (goal < 64) × (from .units + length (now commands) < 2 ^ 64) ⌝ }
+    ensures { λ r. ⌜ r ≡ backOf (tabled n m (now (table .entry))) from (now (commands .entry)) goal ⌝ }
+{
+    if commands.len() == 0 {
+        let set = from.set;
+        return Back {
+            right: set.is_only(goal),
+            units: from.units,
+        };
+    }
+    let command = octets::byte_at(commands, 0);
+    let sent = from.sent(table, n, m, command);
+    let next = sent.next;
+    if !sent.able {
+        return Back {
+            right: false,
+            units: next.units,
+        };
+    }
+    runs_back(next, table, n, m, &commands[1..], goal)
+}
+
+// The first item that is not accepted, from the book's bytes. For each start in psi, the ends in phi are run back together, and where there are
+// none the empty set, for its units alone; an item is effective if some start is used, that is, has an end. The search is left as soon as one
+// item fails.
+fn first_wrong(book: &[u8], table: &[u64], n: u64, m: u64) -> JudgementMade
     requires { ⌜ (n ≤ 64) × (m ≤ 32) × WellFormed (now book) ⌝ }
     ensures { λ r. ⌜ Judged (now (book .entry)) (tabled n m (now (table .entry))) r ⌝ }
 {
     let mut at = items::first_item(book);
     let mut found = Judgement::AllAccepted;
+    let mut units = 0;
     'items: while at < book.len() {
         let item = items::item_at(book, at);
         let forward = item.forward;
@@ -58,15 +95,21 @@ fn first_wrong(book: &[u8], table: &[u64], n: u64, m: u64) -> Judgement
         let mut starts = StateSet::of(item.psi);
         let mut start = starts.lowest();
         while start < n {
-            let mut set = StateSet::of(0).add(start);
+            let mut ends = Counted {
+                set: StateSet::of(0).add(start),
+                units: units,
+            };
             for j in 0..item.k {
                 let command = octets::byte_at(&book[forward..forward + item.k], j);
-                set = set.after(table, n, m, command);
+                ends = ends.after(table, n, m, command);
             }
-            set = set.within(item.phi);
+            ends = ends.within(item.phi);
+            let back = runs_back(ends, table, n, m, &book[reverse..reverse + item.r], start);
+            units = back.units;
+            let set = ends.set;
             if !set.is_empty() {
                 used = true;
-                if !runs_back(set, table, n, m, &book[reverse..reverse + item.r], start) {
+                if !back.right {
                     found = Judgement::Wrong(at as u64, Reason::NoReversePlan);
                     break 'items;
                 }
@@ -80,7 +123,10 @@ fn first_wrong(book: &[u8], table: &[u64], n: u64, m: u64) -> Judgement
         }
         at = item.next;
     }
-    found
+    JudgementMade {
+        found: found,
+        units: units,
+    }
 }
 
 // The code for a reason.
@@ -93,18 +139,35 @@ fn code_of(why: Reason) -> u64
     }
 }
 
-// Reads a book, and judges each of its items: the code of the first one that is not accepted, at the place of its record.
-pub fn check(book: &[u8], table: &mut [u64], slots: &mut [u8], weights: &mut [u16]) -> Reading
+// An answer of reading with the units made.
+fn with_units(found: Reading, units: u64) -> Checking
+    ensures { λ r. ⌜ r ≡ withUnits found units ⌝ }
+{
+    Checking {
+        code: found.code,
+        place: found.place,
+        n: found.n,
+        m: found.m,
+        items: found.items,
+        units: units,
+    }
+}
+
+// Reads a book, and judges each of its items: the code of the first one that is not accepted, at the place of its record; the units made.
+pub fn check(book: &[u8], table: &mut [u64], slots: &mut [u8], weights: &mut [u16]) -> Checking
     ensures { λ r. ⌜ CheckAs (now (book .entry)) (lent (now (table .entry)) (now (slots .entry)) (now (weights .entry))) r
         (lent (now (table .exit)) (now (slots .exit)) (now (weights .exit))) ⌝ }
 {
     let found = reader::read(book, table, slots, weights);
     if found.code != 0 {
-        return found;
+        return with_units(found, 0);
     }
     let judged = first_wrong(book, table, found.n, found.m);
-    match judged {
-        Judgement::AllAccepted => found,
-        Judgement::Wrong(place, why) => reader::refused(code_of(why), place),
+    let judgement = judged.found;
+    match judgement {
+        Judgement::AllAccepted => with_units(found, judged.units),
+        Judgement::Wrong(place, why) => {
+            with_units(reader::refused(code_of(why), place), judged.units)
+        }
     }
 }

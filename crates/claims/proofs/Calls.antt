@@ -10,11 +10,11 @@ use Rattle.reversal.specs.Runs.{Run}
 use Rattle.book.specs.Lent.{Lent}
 use Rattle.book.specs.Example.{bytesQ}
 use Rattle.runs.specs.RunBytes.{runBytes}
-use Rattle.reader.specs.declared.Reading.{Reading}
 use Rattle.reader.specs.Contract.{ReadAs}
 use Rattle.reader.proofs.Exactly.{reads}
 use Rattle.reader.proofs.Unique.{zero↔ as read-zero↔}
 use Rattle.reader.proofs.read as read
+use Rattle.checker.specs.declared.Checking.{Checking}
 use Rattle.checker.specs.declared.Reason.{Reason}
 use Rattle.checker.specs.declared.Reason.the-variants.{NoReversePlan, NotEffective}
 use Rattle.checker.specs.Reasons.{codeOf}
@@ -23,6 +23,11 @@ use Rattle.checker.specs.Contract.{CheckAs}
 use Rattle.checker.proofs.Exactly.{checks}
 use Rattle.checker.proofs.Unique.{zero↔ as check-zero↔, wrong-for, checked-wrong}
 use Rattle.checker.proofs.check as check
+use Rattle.forecast.specs.Contract.{ForecastAs}
+use Rattle.forecast.proofs.Exactly.{forecasts}
+use Rattle.forecast.proofs.Unique.{zero↔ as forecast-zero↔, never, refused-zeros}
+use Rattle.forecast.proofs.Bounds.{units-bound, none-exceeds}
+use Rattle.forecast.proofs.forecast as forecast
 use Rattle.writer.specs.Contract.{WriteAs}
 use Rattle.writer.proofs.Exactly.{writes}
 use Rattle.writer.proofs.RoundTrips.{writes-zero↔, write-well-formed, write-length}
@@ -60,15 +65,16 @@ use Rattle.report.specs.Contract.{ReportAs}
 use Rattle.report.proofs.Exactly.{reports}
 use Rattle.report.proofs.report as report
 use Rattle.claims.specs.Always.{Always}
-use Rattle.claims.specs.Claims.{onRead, onWrite, onAssemble, onLegs, onLayOut, onLookup, onOutcomes, onReport, WellWritten, ReadClaims, ChecksWrong, CheckClaims, WriteClaims, AssembleClaims, LegsClaims, AsAssembling, PaperClaims, LookupClaims, RuleClaims, ConstantTable, RidgeTable, PortableTable, ReportClaims}
-use Rattle.claims.specs.Worked.{ChecksWorked, AssemblesWorked, PaperWorked}
+use Rattle.claims.specs.Claims.{onRead, onCheck, onForecast, onWrite, onAssemble, onLegs, onLayOut, onLookup, onOutcomes, onReport, WellWritten, ReadClaims, ChecksWrong, CheckClaims, ForecastNumbers, NoneExceeds, ForecastClaims, WriteClaims, AssembleClaims, LegsClaims, AsAssembling, PaperClaims, LookupClaims, RuleClaims, ConstantTable, RidgeTable, PortableTable, ReportClaims}
+use Rattle.claims.specs.Worked.{ChecksWorked, ForecastsWorked, AssemblesWorked, PaperWorked}
 use Rattle.claims.proofs.Weaker.{weaker}
 use Rattle.claims.proofs.RoundTrips.{read-back, write-back}
+use Rattle.claims.proofs.Foreseen.{units-foreseen}
 
 constant-table : {d : DeviceRule} {not-empty : ℕ} {table : List ℕ} → EqualsRule d not-empty table → ConstantTable d not-empty table
 constant-table {d} q = record { equals-rule = q; generated = entry-generated d q }
 
-checks-wrong : (why : Reason) {book : List ℕ} {l : Lent} {r : Reading} {l′ : Lent} → Bytes book → Checks book l r l′
+checks-wrong : (why : Reason) {book : List ℕ} {l : Lent} {r : Checking} {l′ : Lent} → Bytes book → Checks book l r l′
     → ChecksWrong (codeOf why) why book l r l′
 checks-wrong why h x = record { only = wrong-for h x why; always = λ long b a same i w. checked-wrong h x long a same w .0 }
 
@@ -81,13 +87,25 @@ module _ (ρ : Routine) where
         given-back = weaker read.ended ρ (onRead ReadAs) _ (λ κs a r e c. read-back (c .bytes) (reads c)) always;
       }
 
-  pub check-claims : Always check.ended ρ (onRead CheckAs) → CheckClaims ρ
+  pub check-claims : Always check.ended ρ (onCheck CheckAs) → CheckClaims ρ
   check-claims always =
       record {
-        says = weaker check.ended ρ (onRead CheckAs) _ (λ κs a r e c. checks c) always;
-        zero = weaker check.ended ρ (onRead CheckAs) _ (λ κs a r e c. check-zero↔ (c .bytes) (checks c)) always;
-        eight = weaker check.ended ρ (onRead CheckAs) _ (λ κs a r e c. checks-wrong NoReversePlan (c .bytes) (checks c)) always;
-        twelve = weaker check.ended ρ (onRead CheckAs) _ (λ κs a r e c. checks-wrong NotEffective (c .bytes) (checks c)) always;
+        says = weaker check.ended ρ (onCheck CheckAs) _ (λ κs a r e c. checks c) always;
+        zero = weaker check.ended ρ (onCheck CheckAs) _ (λ κs a r e c. check-zero↔ (c .bytes) (checks c)) always;
+        eight = weaker check.ended ρ (onCheck CheckAs) _ (λ κs a r e c. checks-wrong NoReversePlan (c .bytes) (checks c)) always;
+        twelve = weaker check.ended ρ (onCheck CheckAs) _ (λ κs a r e c. checks-wrong NotEffective (c .bytes) (checks c)) always;
+        units-foreseen = weaker check.ended ρ (onCheck CheckAs) _ (λ κs a r e c. units-foreseen (c .bytes) (checks c)) always;
+      }
+
+  pub forecast-claims : Always forecast.ended ρ (onForecast ForecastAs) → ForecastClaims ρ
+  forecast-claims always =
+      record {
+        says = weaker forecast.ended ρ (onForecast ForecastAs) _ (λ κs a r e c. forecasts c) always;
+        zero = weaker forecast.ended ρ (onForecast ForecastAs) _ (λ κs a r e c. forecast-zero↔ (c .bytes) (forecasts c)) always;
+        numbers =
+            weaker forecast.ended ρ (onForecast ForecastAs) (onForecast ForecastNumbers)
+            (λ κs a r e c. record { never = never (forecasts c); zeros = refused-zeros (forecasts c); at-most = units-bound (forecasts c) }) always;
+        none-exceeds = weaker forecast.ended ρ (onForecast ForecastAs) (onForecast NoneExceeds) (λ κs a r e c. none-exceeds (forecasts c)) always;
       }
 
   pub write-claims : Always write.ended ρ (onWrite WriteAs) → WriteClaims ρ
@@ -169,8 +187,12 @@ worked-page given e f {l} {page} {r} {l′} {page′} x long enough =
     given .written (subst₂ (λ (y z : List ℕ). Pages y z l page r l′ page′) e f x) long enough
 
 module _ (ρ : Routine) where
-  pub check-worked : Always check.ended ρ (onRead CheckAs) → Always check.ended ρ (onRead ChecksWorked)
-  check-worked = weaker check.ended ρ (onRead CheckAs) (onRead ChecksWorked) (λ κs a r e c answer judges long. judges .result (checks c) long)
+  pub check-worked : Always check.ended ρ (onCheck CheckAs) → Always check.ended ρ (onCheck ChecksWorked)
+  check-worked = weaker check.ended ρ (onCheck CheckAs) (onCheck ChecksWorked) (λ κs a r e c answer judges long. judges .result (checks c) long)
+
+  pub forecast-worked : Always forecast.ended ρ (onForecast ForecastAs) → Always forecast.ended ρ (onForecast ForecastsWorked)
+  forecast-worked =
+      weaker forecast.ended ρ (onForecast ForecastAs) (onForecast ForecastsWorked) (λ κs a r e c answer foresees. foresees .result (forecasts c))
 
   pub assemble-worked : Always assemble.ended ρ (onAssemble (AssembleAs inBytes)) → Always assemble.ended ρ (onAssemble (AssemblesWorked inBytes))
   assemble-worked =

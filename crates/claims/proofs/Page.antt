@@ -17,6 +17,7 @@ use Rattle.reversal.specs.Chains.{Fits, Chain, planOf, cost, Undoes}
 use Rattle.reversal.specs.Answers.{Allowed, Answer, Answers, Numbers}
 use Rattle.reversal.specs.Twelve.{Twelve}
 use Rattle.reversal.specs.Weighted.{Weighted}
+use Rattle.reversal.specs.WorkedUnits.{WorkedUnits}
 use Rattle.reversal.specs.Computed.Sets.{accepts}
 use Rattle.reversal.specs.Computed.Beliefs.{belief}
 use Rattle.reversal.specs.Computed.Assembly.{fits, numbers, answer}
@@ -27,8 +28,9 @@ use Rattle.reversal.proofs.Histories.{possible↔, percept-states}
 use Rattle.reversal.proofs.Fitting.{fits↔, fits-possible}
 use Rattle.reversal.proofs.EndToEnd.{chain-undoes}
 use Rattle.reversal.proofs.Assembling.{cost-most, numbers-right, answer-right, answers-unique}
+use Rattle.reversal.proofs.Sizes.{worked-units}
 use Rattle.reversal.proofs.Cases.{twelve, weighted}
-use Rattle.book.specs.Book.{Book, bytesOf, WellFormed}
+use Rattle.book.specs.Book.{Book, AllowedBook, bytesOf, WellFormed}
 use Rattle.book.specs.Lent.{Lent}
 use Rattle.book.specs.Example as book-example
 use Rattle.book.proofs.Example as book-cases
@@ -40,6 +42,7 @@ use Rattle.reader.proofs.Unique.{reads-unique}
 use Rattle.reader.proofs.Cases.{q-read}
 use Rattle.reader.proofs.read.Symbol.{routine as read-routine}
 use Rattle.reader.proofs.read.Met.{met as read-met}
+use Rattle.checker.specs.declared.Checking.{Checking}
 use Rattle.checker.specs.Checks.{Checks}
 use Rattle.checker.specs.Cases.{QChecked}
 use Rattle.checker.proofs.Unique.{checks-unique}
@@ -47,6 +50,15 @@ use Rattle.checker.proofs.Cases.{q-checked}
 use Rattle.checker.proofs.check as check
 use Rattle.checker.proofs.check.Symbol.{routine as check-routine}
 use Rattle.checker.proofs.check.Met.{met as check-met}
+use Rattle.forecast.specs.declared.Forecasted.{Forecasted}
+use Rattle.forecast.specs.Forecasts.{Forecasts}
+use Rattle.forecast.specs.Cases.{QForecast}
+use Rattle.forecast.proofs.Unique.{forecasts-unique}
+use Rattle.forecast.proofs.Bounds.{units-reached}
+use Rattle.forecast.proofs.Cases.{q-forecast}
+use Rattle.forecast.proofs.forecast as forecast
+use Rattle.forecast.proofs.forecast.Symbol.{routine as forecast-routine}
+use Rattle.forecast.proofs.forecast.Met.{met as forecast-met}
 use Rattle.writer.specs.declared.Writing.{Writing}
 use Rattle.writer.specs.Writes.{Writes}
 use Rattle.writer.specs.Cases as write-example
@@ -54,6 +66,7 @@ use Rattle.writer.proofs.Exactly.{writes-unique}
 use Rattle.writer.proofs.Cases as write-cases
 use Rattle.writer.proofs.write.Symbol.{routine as write-routine}
 use Rattle.writer.proofs.write.Met.{met as write-met}
+use Rattle.runs.specs.RunBytes.{runBytes}
 use Rattle.runs.specs.Example as run-example
 use Rattle.runs.proofs.Example as run-cases
 use Rattle.assembly.specs.declared.Assembly.{Assembly}
@@ -107,6 +120,8 @@ use Rattle.planner.proofs.rollback_read.Symbol.{routine as exported-read-routin
 use Rattle.planner.proofs.rollback_read.Met.{met as exported-read-met}
 use Rattle.planner.proofs.rollback_check.Symbol.{routine as exported-check-routine}
 use Rattle.planner.proofs.rollback_check.Met.{met as exported-check-met}
+use Rattle.planner.proofs.rollback_forecast.Symbol.{routine as exported-forecast-routine}
+use Rattle.planner.proofs.rollback_forecast.Met.{met as exported-forecast-met}
 use Rattle.planner.proofs.rollback_write.Symbol.{routine as exported-write-routine}
 use Rattle.planner.proofs.rollback_write.Met.{met as exported-write-met}
 use Rattle.planner.proofs.rollback_assemble.Symbol.{routine as exported-assemble-routine}
@@ -127,10 +142,11 @@ use Rattle.report.proofs.Unique.{prints-unique}
 use Rattle.report.proofs.Cases.{examples}
 use Rattle.report.proofs.report.Symbol.{routine as report-routine}
 use Rattle.report.proofs.report.Met.{met as report-met}
-use Rattle.claims.specs.Claims.{onRead, onAssemble, onLegs, onLayOut, ReadClaims, CheckClaims, WriteClaims, AssembleClaims, LegsClaims, PaperClaims, LookupClaims, RuleClaims, RidgeTable, PortableTable, ReportClaims}
+use Rattle.claims.specs.Claims.{onCheck, onForecast, onAssemble, onLegs, onLayOut, ReadClaims, CheckClaims, ForecastClaims, WriteClaims, AssembleClaims, LegsClaims, PaperClaims, LookupClaims, RuleClaims, RidgeTable, PortableTable, ReportClaims}
 use Rattle.claims.specs.Always.{Always}
-use Rattle.claims.specs.Worked.{ChecksWorked, AssemblesWorked, PaperWorked}
-use Rattle.claims.proofs.Calls.{read-claims, check-claims, write-claims, assemble-claims, legs-claims, paper-claims, lookup-claims, rule-claims, ridge-table-claims, portable-table-claims, report-claims, check-worked, assemble-worked, legs-worked, paper-worked}
+use Rattle.claims.specs.Worked.{ChecksWorked, ForecastsWorked, AssemblesWorked, PaperWorked}
+use Rattle.claims.proofs.Foreseen as foreseen
+use Rattle.claims.proofs.Calls.{read-claims, check-claims, forecast-claims, write-claims, assemble-claims, legs-claims, paper-claims, lookup-claims, rule-claims, ridge-table-claims, portable-table-claims, report-claims, check-worked, forecast-worked, assemble-worked, legs-worked, paper-worked}
 
 -- ---- the meaning
 
@@ -219,6 +235,13 @@ checking = check-claims check-routine (λ M. check-met)
 pub exported-checking : CheckClaims exported-check-routine
 exported-checking = check-claims exported-check-routine (λ M. exported-check-met)
 
+-- how much checking a book will take
+pub forecasting : ForecastClaims forecast-routine
+forecasting = forecast-claims forecast-routine (λ M. forecast-met)
+
+pub exported-forecasting : ForecastClaims exported-forecast-routine
+exported-forecasting = forecast-claims exported-forecast-routine (λ M. exported-forecast-met)
+
 pub writing : WriteClaims write-routine
 writing = write-claims write-routine (λ M. write-met)
 
@@ -241,6 +264,16 @@ laying-out = paper-claims lay-out-routine (λ M. lay-out-met)
 
 pub exported-laying-out : PaperClaims exported-page-routine
 exported-laying-out = paper-claims exported-page-routine (λ M. exported-page-met)
+
+-- what assembling gives for a run of i commands is within the forecast for i, for either form of the legs
+pub plans-foreseen : {E : Type 0} {form : LegForm E} {book run : List ℕ} {i : ℕ} {f : Forecasted} {l : AllLent E} {r : Assembly} {l′ : AllLent E}
+    → Forecasts book i f → f .code ≡ 0 → (u : Run) → runBytes u ≡ run → last u ≡ i → Assembles form book run l r l′
+    → (r .commands ≤ f .«plan_bytes») × (r .legs ≤ f .legs)
+plans-foreseen = foreseen.plans-foreseen
+
+-- 02: "The forecast never exceeds 65,536" (a claim of each call), and some book's is as much
+pub as-many-units : (b : Book) × AllowedBook b × Forecasts (bytesOf b) 32 (record { code = 0; place = 0; units = 65536; «plan_bytes» = 256; legs = 32 })
+as-many-units = units-reached
 
 -- the ridge repeater: its lookup, its constant table, and its rule's function, which the generator prints
 pub looking-up-ridge : LookupClaims ridge ridge-lookup-routine
@@ -282,8 +315,11 @@ printing-first = prints-first
 pub only-reading : {book : List ℕ} {l : Lent} {r q : Reading} {l′ l″ : Lent} → Bytes book → Reads book l r l′ → Reads book l q l″ → (r ≡ q) × (l′ ≡ l″)
 only-reading h x y = reads-unique h x y
 
-pub only-checking : {book : List ℕ} {l : Lent} {r q : Reading} {l′ l″ : Lent} → Bytes book → Checks book l r l′ → Checks book l q l″ → (r ≡ q) × (l′ ≡ l″)
+pub only-checking : {book : List ℕ} {l : Lent} {r q : Checking} {l′ l″ : Lent} → Bytes book → Checks book l r l′ → Checks book l q l″ → (r ≡ q) × (l′ ≡ l″)
 only-checking h x y = checks-unique h x y
+
+pub only-forecast : {book : List ℕ} {i : ℕ} {r q : Forecasted} → Bytes book → Forecasts book i r → Forecasts book i q → r ≡ q
+only-forecast h x y = forecasts-unique h x y
 
 pub only-writing : {n m items : ℕ} {l : Lent} {out : List ℕ} {r q : Writing} {o o′ : List ℕ} → Bytes (l .slots) → Writes n m items l out r o
     → Writes n m items l out q o′ → (r ≡ q) × (o ≡ o′)
@@ -327,6 +363,10 @@ cases = twelve
 pub cases-weighted : Weighted
 cases-weighted = weighted
 
+-- the units and the largest r of the items of Q and of those with weights
+pub case-units : WorkedUnits
+case-units = worked-units
+
 -- Q, the two books with weights, and two runs as bytes
 pub case-books : book-example.Worked
 case-books = book-cases.worked
@@ -341,6 +381,10 @@ case-read = q-read
 
 pub case-checked : QChecked
 case-checked = q-checked
+
+-- the forecast for Q and for the book with weights; i over 32; a book cut off
+pub case-forecast : QForecast
+case-forecast = q-forecast
 
 pub runs-in-bytes : Runs inBytes
 runs-in-bytes = runs inBytes
@@ -362,8 +406,11 @@ pub runs-on-paper : PageRuns
 runs-on-paper = page-runs
 
 -- the same books and runs, of the compiled routines
-pub worked-checking : Always check.ended check-routine (onRead ChecksWorked)
+pub worked-checking : Always check.ended check-routine (onCheck ChecksWorked)
 worked-checking = check-worked check-routine (λ M. check-met)
+
+pub worked-forecast : Always forecast.ended forecast-routine (onForecast ForecastsWorked)
+worked-forecast = forecast-worked forecast-routine (λ M. forecast-met)
 
 pub worked-assembling : Always assemble.ended assemble-routine (onAssemble (AssemblesWorked inBytes))
 worked-assembling = assemble-worked assemble-routine (λ M. assemble-met)

@@ -8,15 +8,21 @@ use prog.Routine.{Routine}
 use lib.ListN.{length, getD, take}
 use denote.Ref.{now}
 use Rattle.base.specs.Sizes.{LongEnough}
-use Rattle.book.specs.Book.{Book, AllowedBook, bytesOf, WellFormed}
+use Rattle.reversal.specs.Runs.{Run, last}
+use Rattle.reversal.specs.Chains.{Chain, planOf}
+use Rattle.book.specs.Book.{Book, deviceOf, AllowedBook, bytesOf, WellFormed}
 use Rattle.book.specs.Lent.{Lent, lent, sizes, Holds}
 use Rattle.reader.specs.declared.Reading.{Reading}
 use Rattle.reader.specs.Reads.{refusal, Reads}
 use Rattle.reader.proofs.read as read
+use Rattle.checker.specs.declared.Checking.{Checking}
 use Rattle.checker.specs.declared.Reason.{Reason}
 use Rattle.checker.specs.declared.Reason.the-variants.{NoReversePlan, NotEffective}
-use Rattle.checker.specs.Checks.{AcceptedBook, placeOf, WrongFor, Checks}
+use Rattle.checker.specs.Checks.{AcceptedBook, placeOf, WrongFor, UnitsMade, withUnits, Checks}
 use Rattle.checker.proofs.check as check
+use Rattle.forecast.specs.declared.Forecasted.{Forecasted}
+use Rattle.forecast.specs.Forecasts.{Forecasts}
+use Rattle.forecast.proofs.forecast as forecast
 use Rattle.writer.specs.declared.Writing.{Writing}
 use Rattle.writer.specs.Writes.{buffers, BookWritten, Writes}
 use Rattle.writer.proofs.write as write
@@ -52,6 +58,20 @@ Read = List ℕ → Lent → Reading → Lent → Type 0
 abbrev pub onRead : Read → After read.ended
 onRead P κs (book, (table, (slots, (weights, _)))) r (_, (table′, (slots′, (weights′, _)))) =
     P (now book) (lent (now table) (now slots) (now weights)) r (lent (now table′) (now slots′) (now weights′))
+
+abbrev pub Check : Type 1
+Check = List ℕ → Lent → Checking → Lent → Type 0
+
+abbrev pub onCheck : Check → After check.ended
+onCheck P κs (book, (table, (slots, (weights, _)))) r (_, (table′, (slots′, (weights′, _)))) =
+    P (now book) (lent (now table) (now slots) (now weights)) r (lent (now table′) (now slots′) (now weights′))
+
+-- no buffer is lent
+abbrev pub Forecast : Type 1
+Forecast = List ℕ → ℕ → Forecasted → Type 0
+
+abbrev pub onForecast : Forecast → After forecast.ended
+onForecast P κs (book, (i, _)) r e = P (now book) i r
 
 abbrev pub Write : Type 1
 Write = ℕ → ℕ → ℕ → Lent → List ℕ → Writing → List ℕ → Type 0
@@ -127,21 +147,53 @@ pub record ReadClaims (ρ : Routine) : Type 2 where
   pub given-back : Always read.ended ρ (onRead ReadBack)
 
 -- checking answers 0 exactly where the bytes keep the rules and every item is, by trajectories, a conditional reverse plan that is also effective
-abbrev pub ChecksZero : Read
+abbrev pub ChecksZero : Check
 ChecksZero book l r l′ = (r .code ≡ 0) ↔ (LongEnough (sizes l) × ((b : Book) × AcceptedBook book b))
 
 -- and `code` exactly where they keep the rules and `why` is the reason of the first item that is not accepted: only there, and always there, at the
--- place of that item's record
-pub record ChecksWrong (code : ℕ) (why : Reason) (book : List ℕ) (l : Lent) (r : Reading) (l′ : Lent) : Type 0 where
+-- place of that item's record, with the units that 02 counts up to there
+pub record ChecksWrong (code : ℕ) (why : Reason) (book : List ℕ) (l : Lent) (r : Checking) (l′ : Lent) : Type 0 where
   pub only : r .code ≡ code → LongEnough (sizes l) × ((b : Book) × AllowedBook b × (bytesOf b ≡ book) × ((i : ℕ) × WrongFor b i why))
-  pub always : LongEnough (sizes l) → (b : Book) → AllowedBook b → bytesOf b ≡ book → (i : ℕ) → WrongFor b i why → r ≡ refusal code (placeOf b i)
+  pub always : LongEnough (sizes l) → (b : Book) → AllowedBook b → bytesOf b ≡ book → (i : ℕ) → WrongFor b i why
+      → (units : ℕ) × UnitsMade b i why units × (r ≡ withUnits (refusal code (placeOf b i)) units)
+
+-- 02: "The check carries the count that it made: equal to the forecast on acceptance, at most the forecast on 8 or 12, 0 on any other refusal."; the
+-- forecast is whatever the call gives for the same book and any i, with code 0
+pub record UnitsForeseen (book : List ℕ) (l : Lent) (r : Checking) (l′ : Lent) : Type 0 where
+  pub equal : r .code ≡ 0 → (i : ℕ) (q : Forecasted) → Forecasts book i q → q .code ≡ 0 → r .units ≡ q .units
+  pub at-most : (i : ℕ) (q : Forecasted) → Forecasts book i q → q .code ≡ 0 → r .units ≤ q .units
+  pub none : (r .code ≡ 0 → ⊥) → (r .code ≡ 8 → ⊥) → (r .code ≡ 12 → ⊥) → r .units ≡ 0
 
 pub record CheckClaims (ρ : Routine) : Type 2 where
-  -- 01: "checking a book is reading and 8"; with 02, 8 or 12
-  pub says : Always check.ended ρ (onRead Checks)
-  pub zero : Always check.ended ρ (onRead ChecksZero)
-  pub eight : Always check.ended ρ (onRead (ChecksWrong 8 NoReversePlan))
-  pub twelve : Always check.ended ρ (onRead (ChecksWrong 12 NotEffective))
+  -- 01: "checking a book is reading and 8"; with 02, 8 or 12, and the units made
+  pub says : Always check.ended ρ (onCheck Checks)
+  pub zero : Always check.ended ρ (onCheck ChecksZero)
+  pub eight : Always check.ended ρ (onCheck (ChecksWrong 8 NoReversePlan))
+  pub twelve : Always check.ended ρ (onCheck (ChecksWrong 12 NotEffective))
+  pub units-foreseen : Always check.ended ρ (onCheck UnitsForeseen)
+
+-- the forecast answers 0 exactly on the bytes of some allowed book and at most 32 commands
+abbrev pub ForecastsZero : Forecast
+ForecastsZero book i r = (r .code ≡ 0) ↔ (WellFormed book × (i ≤ 32))
+
+-- it lends no buffer and judges no item; 02: "The forecast never exceeds 65,536."
+pub record ForecastNumbers (book : List ℕ) (i : ℕ) (r : Forecasted) : Type 0 where
+  pub never : (r .code ≡ 1 → ⊥) × (r .code ≡ 8 → ⊥) × (r .code ≡ 12 → ⊥)
+  pub zeros : (r .code ≡ 0 → ⊥) → (r .units ≡ 0) × (r .«plan_bytes» ≡ 0) × (r .legs ≡ 0)
+  pub at-most : r .units ≤ 65536
+
+-- 02: "plan bytes and legs that no run of i commands exceeds": every chain of the book's items that fits any run of i commands
+abbrev pub NoneExceeds : Forecast
+NoneExceeds book i r =
+    r .code ≡ 0 → (b : Book) → AllowedBook b → bytesOf b ≡ book → (u : Run) → last u ≡ i → (xs : List ℕ) → Chain (deviceOf b) u (b .items) (last u) xs
+    → (length (planOf (b .items) xs) ≤ r .«plan_bytes») × (length xs ≤ r .legs)
+
+pub record ForecastClaims (ρ : Routine) : Type 2 where
+  -- 02: "A forecast gives, for any well-formed book, with no buffer lent and no command applied, .."; reading's codes, then 9
+  pub says : Always forecast.ended ρ (onForecast Forecasts)
+  pub zero : Always forecast.ended ρ (onForecast ForecastsZero)
+  pub numbers : Always forecast.ended ρ (onForecast ForecastNumbers)
+  pub none-exceeds : Always forecast.ended ρ (onForecast NoneExceeds)
 
 -- writing answers 0 exactly where the buffers are long enough and table, slots and weights hold an allowed book
 abbrev pub WritesZero : Write

@@ -9,8 +9,10 @@ use Rattle.reversal.specs.Runs.{Run}
 use Rattle.reversal.specs.Answers.{Answer}
 use Rattle.book.specs.Lent.{sizes}
 use Rattle.book.specs.Example.{bytesQ}
-use Rattle.reader.specs.declared.Reading.{Reading}
+use Rattle.checker.specs.declared.Checking.{Checking}
 use Rattle.checker.specs.Cases.{Judges}
+use Rattle.forecast.specs.declared.Forecasted.{Forecasted}
+use Rattle.forecast.specs.Cases.{Foresees}
 use Rattle.runs.specs.RunBytes.{runBytes}
 use Rattle.assembly.specs.declared.Assembly.{Assembly}
 use Rattle.assembly.specs.Lent.{LegForm, inBytes, AllLent, allSizes}
@@ -18,11 +20,15 @@ use Rattle.assembly.specs.Assembles.{refusal, Left}
 use Rattle.assembly.specs.Cases.{BytesGive, BookRefused}
 use Rattle.paper.specs.Pages.{pageSizes}
 use Rattle.paper.specs.Cases.{PageGiven}
-use Rattle.claims.specs.Claims.{Read, LayOut}
+use Rattle.claims.specs.Claims.{Check, Forecast, LayOut}
 
 -- the books of checker/specs/Cases
-abbrev pub ChecksWorked : Read
-ChecksWorked book l r l′ = (answer : Reading) → Judges book answer → LongEnough (sizes l) → r ≡ answer
+abbrev pub ChecksWorked : Check
+ChecksWorked book l r l′ = (answer : Checking) → Judges book answer → LongEnough (sizes l) → r ≡ answer
+
+-- those of forecast/specs/Cases
+abbrev pub ForecastsWorked : Forecast
+ForecastsWorked book i r = (answer : Forecasted) → Foresees book i answer → r ≡ answer
 
 -- the runs of the joint table, those with weights, and the books that are refused
 pub record AssemblesWorked {E : Type 0} (form : LegForm E) (book run : List ℕ) (l : AllLent E) (r : Assembly) (l′ : AllLent E) : Type 0 where

@@ -126,9 +126,9 @@ module _ (s : List ℕ) (at k r : ℕ) (ek : k ≡ getD s (at + 4) 0) (er : r �
               (omega (arith, length-append (bytesLe 8 (x .phi)) (bytesLe 8 (x .psi)), length-bytesLe 8 (x .phi), length-bytesLe 8 (x .psi)));
         }
 
-  pub read-item : (phi psi : ℕ) → phi ≡ leAt 8 s (at + 6 + k + r) → psi ≡ leAt 8 s (at + 6 + k + r + 8)
+  pub read-item : k < 256 → r < 256 → (phi psi : ℕ) → phi ≡ leAt 8 s (at + 6 + k + r) → psi ≡ leAt 8 s (at + 6 + k + r + 8)
       → ItemAt s at (record { k = k; r = r; forward = at + 6; reverse = at + 6 + k; phi = phi; psi = psi; next = at + 6 + k + r + 16 })
-  read-item phi psi ep eq = record { past = λ l. omega arith; fields = λ h. fields h phi psi ep eq; next = next }
+  read-item lk lr phi psi ep eq = record { k-byte = lk; r-byte = lr; past = λ l. omega arith; fields = λ h. fields h phi psi ep eq; next = next }
 
   pub read-parts : PartsAt s at (record { k = k; r = r; forward = at + 6; reverse = at + 6 + k; masks = at + 6 + k + r; next = at + 6 + k + r + 16 })
   read-parts = record { past = λ l. omega arith; parts = parts; next = next }

@@ -47,6 +47,8 @@ pub record Fields (s : List ℕ) (p : Place) (x : Item) : Type 0 where
 
 -- the contract of `item_at`
 pub record ItemAt (s : List ℕ) (at : ℕ) (p : Place) : Type 0 where
+  pub k-byte : p .k < 256
+  pub r-byte : p .r < 256
   pub past : at < length s → at < p .next
   pub fields : {b : Book} {i : ℕ} → ItemStands s b i at → Fields s p (item (b .items) i)
   pub next : {b : Book} {i : ℕ} → ItemStands s b i at → Begins s b (i + 1) (p .next)

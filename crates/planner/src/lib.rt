@@ -1,6 +1,8 @@
 // The calls for C and Rust: the public calls by the names and the order that include/rollback.h has. Each keeps the promise of the call that it passes
 // on to.
 use assembly::Assembly;
+use checker::Checking;
+use forecast::Forecasted;
 use lookups::LookupResult;
 use paper::Paged;
 use reader::Reading;
@@ -12,6 +14,7 @@ ghost use lib.Seq.{sets};
 ghost use Rattle.book.specs.Lent.{lent};
 ghost use Rattle.reader.specs.Contract.{ReadAs};
 ghost use Rattle.checker.specs.Contract.{CheckAs};
+ghost use Rattle.forecast.specs.Contract.{ForecastAs};
 ghost use Rattle.writer.specs.Contract.{WriteAs};
 ghost use Rattle.assembly.specs.Contract.{AssembleAs};
 ghost use Rattle.assembly.specs.Lent.{inBytes, allLent};
@@ -40,11 +43,18 @@ pub extern "C" fn rollback_check(
     table: &mut [u64],
     slots: &mut [u8],
     weights: &mut [u16],
-) -> Reading
+) -> Checking
     ensures { λ r. ⌜ CheckAs (now (book .entry)) (lent (now (table .entry)) (now (slots .entry)) (now (weights .entry))) r
         (lent (now (table .exit)) (now (slots .exit)) (now (weights .exit))) ⌝ }
 {
     checker::check(book, table, slots, weights)
+}
+
+#[no_mangle]
+pub extern "C" fn rollback_forecast(book: &[u8], i: u64) -> Forecasted
+    ensures { λ r. ⌜ ForecastAs (now (book .entry)) i r ⌝ }
+{
+    forecast::forecast(book, i)
 }
 
 #[no_mangle]

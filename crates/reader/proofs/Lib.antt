@@ -3,6 +3,7 @@ pub mod Turns
 pub mod Weights
 pub mod Stores
 pub mod Filling
+pub mod Summing
 pub mod Ways
 pub mod Exactly
 pub mod Unique

@@ -19,7 +19,7 @@ use Rattle.reader.specs.Turns.{Standing, Stands, Onward}
 
 pub standing : (s : List ℕ) (at len kind : ℕ) → 4 ≤ length s - at → len ≡ leAt 2 s at → kind ≡ leAt 2 s (at + 2) → len ≤ length s - (at + 4)
     → Standing s at len kind
-standing s at len kind h a b l = record { row = rw (a, b) (cut-whole s at h (rw a at l)); within = omega arith }
+standing s at len kind h a b l = record { row = rw (a, b) (cut-whole s at h (rw a at l)); within = omega arith; length-is = a }
 
 -- what is told of a head, where it is known
 module _ (s : List ℕ) (at : ℕ) where
@@ -62,7 +62,7 @@ module _ (s : List ℕ) (at : ℕ) (st : State) where
         ∙ ap (λ (y : Step). onStep y (λ st′. scan row (at + 4 + len) st′) at) (sym (judged ∙ ap (λ (b : List ℕ). step st (rec kind b)) body-is))
 
     pub goes : (after : State) → x ≡ Go after → Limits after → Onward s at st after (at + 4 + len)
-    goes after e l = record { same = rw e at next; limits = l; past = omega arith; within = h .within }
+    goes after e l = record { same = rw e at next; limits = l; past = omega arith; within = h .within; place-is = ap (λ (k : ℕ). at + 4 + k) (h .length-is) }
 
     pub stops : (code : ℕ) → x ≡ Stop code → scan (cut (drop at s)) at st ≡ Fault code at
     stops code e = rw e at next

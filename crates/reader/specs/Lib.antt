@@ -1,5 +1,6 @@
 pub mod Judged
 pub mod Turns
+pub mod Summing
 pub mod Filling
 pub mod Reads
 pub mod Contract

@@ -2,20 +2,23 @@
 mod fill;
 mod scan;
 mod steps;
+mod units;
 
 use book::Scan;
 use book::State;
 use scan::Turn;
+use units::Tally;
 ghost use mathlib.Core.Path.{_≡_};
 ghost use Rattle.book.specs.Parse.{cut, atStart};
 ghost use Rattle.book.specs.Parse as parse;
 ghost use Rattle.book.specs.Lent.{lent};
 ghost use Rattle.reader.specs.Judged.{ScanBounded};
+ghost use Rattle.reader.specs.Summing.{SummedUp};
 ghost use Rattle.reader.specs.Filling.{TableFilled, SlotsFilled, WeightsFilled};
 ghost use Rattle.reader.specs.Reads.{refusal};
 ghost use Rattle.reader.specs.Contract.{ReadAs};
 
-// What reading and checking answer: the code and its place; n, m and the number of items, each 0 on a refusal.
+// What reading answers: the code and its place; n, m and the number of items, each 0 on a refusal.
 #[repr(C)]
 pub struct Reading {
     pub code: u64,
@@ -25,10 +28,17 @@ pub struct Reading {
     pub items: u64,
 }
 
-// Judges the bytes of a book with no buffer lent: the first fault, or where reading is at its end.
-pub fn judge(book: &[u8]) -> Scan
-    ensures { λ r. ⌜ r ≡ parse.scan (cut (now (book .entry))) 0 atStart ⌝ }
-    ensures { λ r. ⌜ ScanBounded r ⌝ }
+// What judging gives, with the units of the items and the longest reverse among them. Where a fault is found,
+// only that longest is below 256 is promised of these two.
+pub struct Sums {
+    pub seen: Scan,
+    pub units: u64,
+    pub longest: u64,
+}
+
+// Judges the bytes of a book and sums up its items in the same pass.
+pub fn sum_up(book: &[u8]) -> Sums
+    ensures { λ r. ⌜ SummedUp (now (book .entry)) r ⌝ }
 {
     let mut at: usize = 0;
     let mut st = State {
@@ -38,18 +48,37 @@ pub fn judge(book: &[u8]) -> Scan
         low: 0,
         items: 0,
     };
+    let mut tally = Tally {
+        count: 0,
+        units: 0,
+        longest: 0,
+    };
     loop {
         let next = scan::turn_at(book, at, st);
         match next {
             Turn::Ended(seen) => {
-                return seen;
+                return Sums {
+                    seen: seen,
+                    units: tally.units,
+                    longest: tally.longest,
+                };
             }
             Turn::Going(after, place) => {
+                tally = units::with_record(book, at, tally);
                 st = after;
                 at = place;
             }
         }
     }
+}
+
+// Judges the bytes of a book with no buffer lent: the first fault, or where reading is at its end.
+pub fn judge(book: &[u8]) -> Scan
+    ensures { λ r. ⌜ r ≡ parse.scan (cut (now (book .entry))) 0 atStart ⌝ }
+    ensures { λ r. ⌜ ScanBounded r ⌝ }
+{
+    let sums = sum_up(book);
+    sums.seen
 }
 
 // Fills the table from the bytes of an allowed book; gives the place of its first item. Other bytes leave something or other in it.

@@ -2,7 +2,7 @@
 use mathlib.Core.Path.{refl}
 use Rattle.base.specs.Tests.{pick, both, imp}
 use Rattle.base.specs.Bounded.{all, union}
-use Rattle.base.specs.Masks.{member, present}
+use Rattle.base.specs.Cardinality.{member, present}
 use Rattle.reversal.specs.Device.{entry}
 use Rattle.reversal.specs.Computed.Sets.{after, able}
 use Rattle.reversal.specs.Computed.Beliefs.{preimage}

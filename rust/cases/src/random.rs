@@ -28,6 +28,8 @@ pub struct Input {
     pub leg_structs: Vec<[u8; 3]>,
     /// For the page besides.
     pub page: Vec<u8>,
+    /// For a forecast, with the book: how many commands a run may have.
+    pub i: u64,
 
     /// For writing.
     pub n: u64,
@@ -67,11 +69,11 @@ pub fn input(seed: u64) -> Input {
     };
     // Items that are turned down: by 8, by 12, or one by each.
     let wrong = rng.below(100);
-    if wrong < 11 {
+    if wrong < 16 {
         let item = not_undoing(rng, &device, &items);
         insert(rng, &mut items, item);
     }
-    if (6..22).contains(&wrong) {
+    if (10..26).contains(&wrong) {
         let item = not_effective(rng, &device, &items);
         insert(rng, &mut items, item);
     }
@@ -129,6 +131,7 @@ pub fn input(seed: u64) -> Input {
     let writing = Writing::new(rng, &device, &items);
     let ridge = looked_up(rng, 64, 16);
     let portable = looked_up(rng, 32, 12);
+    let i = forecast_length(rng);
 
     let filler = &mut Rng::new(seed ^ 0x5eed_f111);
     Input {
@@ -144,6 +147,7 @@ pub fn input(seed: u64) -> Input {
             .map(|_| [filler.byte(), filler.byte(), filler.byte()])
             .collect(),
         page: (0..page).map(|_| filler.byte()).collect(),
+        i,
         n: writing.n,
         m: writing.m,
         items: writing.items,
@@ -181,6 +185,15 @@ fn looked_up(rng: &mut Rng, states: usize, commands: usize) -> (u64, u64) {
         ),
         8 => (huge(rng), rng.below(commands) as u64),
         _ => (rng.below(states) as u64, huge(rng)),
+    }
+}
+
+/// The commands of a run: up to 34, of which 32 are the most, or huge.
+fn forecast_length(rng: &mut Rng) -> u64 {
+    match rng.below(10) {
+        0..=6 => rng.within(0, 34) as u64,
+        7..=8 => rng.within(31, 34) as u64,
+        _ => huge(rng),
     }
 }
 
@@ -668,17 +681,23 @@ fn any_item(rng: &mut Rng, device: &Device, items: &[Item]) -> Option<Item> {
 
 /// An item that is no conditional reverse plan, if one is found: code 8.
 fn not_undoing(rng: &mut Rng, device: &Device, items: &[Item]) -> Option<Item> {
+    if rng.chance(60) {
+        let partly = rng.chance(70);
+        let item = (0..20).find_map(|_| stuck(rng, device, items, partly));
+        if item.is_some() {
+            return item;
+        }
+    }
     (0..20).find_map(|_| {
         let mut item = any_item(rng, device, items)?;
         match rng.below(7) {
-            // Where the command can't be carried out everywhere, stuck.
             5..=6 if item.reverse.len() < 8 => {
                 let at = rng.within(0, item.reverse.len());
                 item.reverse.insert(at, rng.below(device.m) as u8);
             }
             0 => item.psi |= 1 << rng.below(device.n),
             1 => item.phi |= 1 << rng.below(device.n),
-            2 => item.reverse.truncate(item.reverse.len().saturating_sub(1)),
+            2 => item.reverse.truncate(rng.below(item.reverse.len().max(1))),
             3 if !item.reverse.is_empty() => {
                 let at = rng.below(item.reverse.len());
                 item.reverse[at] = rng.below(device.m) as u8;
@@ -690,6 +709,37 @@ fn not_undoing(rng: &mut Rng, device: &Device, items: &[Item]) -> Option<Item> {
         }
         Some(item).filter(|item| !device.undoes(item))
     })
+}
+
+/// An item with one more reverse command that some state can't carry out, if one is found. For `partly`
+/// another state can, after any one forward command from any one start.
+fn stuck(rng: &mut Rng, device: &Device, items: &[Item], partly: bool) -> Option<Item> {
+    let mut item = any_item(rng, device, items)?;
+    if partly {
+        item.forward = vec![rng.below(device.m) as u8];
+        item.phi = all(device.n);
+        item.psi = 1 << rng.below(device.n);
+    }
+    let mut found = Vec::new();
+    for start in states(item.psi) {
+        let mut set = device.ends(start, &item.forward, item.phi);
+        for at in 0..=item.reverse.len().min(7) {
+            for c in 0..device.m as u8 {
+                let unable = states(set).any(|s| device.outcomes(s, c) == 0);
+                if unable && (!partly || device.after(set, c) != 0) {
+                    found.push((at, c));
+                }
+            }
+            set = (item.reverse.get(at)).map_or(0, |&c| device.after(set, c));
+        }
+    }
+    if found.is_empty() {
+        return None;
+    }
+    let (at, c) = *rng.pick(&found);
+    item.reverse.insert(at, c);
+    item.reverse.truncate(8);
+    Some(item)
 }
 
 /// An item of which no start has an end, if one is found: code 12.

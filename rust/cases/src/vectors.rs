@@ -45,11 +45,21 @@ pub struct BookCase {
     pub weights: Vec<u16>,
     /// Code, place, n, m, count.
     pub reading: [u64; 5],
-    pub checking: [u64; 5],
+    /// The same, and the units.
+    pub checking: [u64; 6],
     /// After checking: entries 0 to 39, slot bytes 0 to 101, weights 0 to 31 as far as they are lent.
     pub table_after: Vec<u64>,
     pub slots_after: Vec<u8>,
     pub weights_after: Vec<u16>,
+}
+
+/// What is given to a forecast and what it must answer.
+#[derive(Clone, Debug)]
+pub struct ForecastCase {
+    pub book: Vec<u8>,
+    pub i: u64,
+    /// Code, place, units, plan bytes, legs.
+    pub answer: [u64; 5],
 }
 
 /// What is given to writing and what it must answer.
@@ -140,8 +150,8 @@ pub fn assemble_cases() -> Vec<AssembleCase> {
 }
 
 /// Each case: a byte for the lengths of the lent buffers, a two-byte length, the book. Each answer:
-/// five lines, namely reading; checking; then the table's entries 0 to 39, the slots' bytes 0 to 101
-/// and the weights 0 to 31 after checking.
+/// five lines, namely reading; checking, the units last; then the table's entries 0 to 39, the slots'
+/// bytes 0 to 101 and the weights 0 to 31 after checking.
 pub fn book_cases() -> Vec<BookCase> {
     let mut bytes = Bytes(data!("book_vectors/data/books.bin"));
     let mut lines = answers!("book_vectors").lines();
@@ -166,6 +176,24 @@ pub fn book_cases() -> Vec<BookCase> {
             table_after: numbers(lines.next()),
             slots_after: numbers(lines.next()),
             weights_after: numbers(lines.next()),
+        });
+    }
+    assert!(lines.next().is_none());
+    cases
+}
+
+/// Each case: i (8 bytes), a two-byte length, the book. Each answer: one line.
+pub fn forecast_cases() -> Vec<ForecastCase> {
+    let mut bytes = Bytes(data!("forecast_vectors/data/forecasts.bin"));
+    let mut lines = answers!("forecast_vectors").lines();
+    let mut cases = Vec::new();
+    while !bytes.0.is_empty() {
+        let i = bytes.word();
+        let length = bytes.number(2);
+        cases.push(ForecastCase {
+            book: bytes.take(length).to_vec(),
+            i,
+            answer: numbers(lines.next()).try_into().unwrap(),
         });
     }
     assert!(lines.next().is_none());

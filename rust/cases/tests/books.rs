@@ -4,9 +4,9 @@
 
 use rollback_cases::device::{all, book_bytes, ridge_device, run_bytes, Device, Item};
 use rollback_cases::*;
-use rollback_plain::{assemble, check, Assembly, Reading};
+use rollback_plain::{assemble, check, forecast, Assembly, Checking};
 
-fn checked(book: &[u8]) -> Reading {
+fn checked(book: &[u8]) -> Checking {
     check(book, &mut [0; 2048], &mut [0; 2176], &mut [0; 32])
 }
 
@@ -22,13 +22,14 @@ fn assembled(book: &[u8], run: &[u8]) -> Assembly {
     )
 }
 
-fn good(n: u64, m: u64, items: u64) -> Reading {
-    Reading {
+fn good(n: u64, m: u64, items: u64, units: u64) -> Checking {
+    Checking {
         code: 0,
         place: 0,
         n,
         m,
         items,
+        units,
     }
 }
 
@@ -46,7 +47,7 @@ fn outcome_counts(book: &[u8]) -> Vec<u32> {
 fn largest() {
     let book = largest_book();
     assert_eq!(book.len(), 31_178);
-    assert_eq!(checked(&book), good(64, 32, 64));
+    assert_eq!(checked(&book), good(64, 32, 64, 65_536));
     assert!(outcome_counts(&book).iter().all(|&count| count == 1));
     let found = assembled(&book, &largest_run());
     assert_eq!((found.code, found.commands, found.legs), (0, 32, 4));
@@ -57,7 +58,7 @@ fn largest() {
 fn branching() {
     let book = branching_book();
     assert_eq!(book.len(), 31_110);
-    assert_eq!(checked(&book), good(64, 32, 64));
+    assert_eq!(checked(&book), good(64, 32, 64, 65_536));
     let counts = outcome_counts(&book);
     assert!(counts.iter().all(|&count| count >= 1));
     assert!(counts.iter().filter(|&&count| count >= 2).count() > 1500);
@@ -86,7 +87,7 @@ fn branching() {
 fn ridge() {
     assert_eq!(ridge_device().table, masks().ridge);
     let book = ridge_book();
-    assert_eq!(checked(&book), good(64, 16, 45));
+    assert_eq!(checked(&book), good(64, 16, 45, 1_724));
     assert_eq!(
         outcome_counts(&book)
             .iter()
@@ -117,9 +118,9 @@ fn portable() {
         };
         checked(&book_bytes(&device, &[item]))
     };
-    assert_eq!(judged(&[11, 1, 10]), good(32, 12, 1));
+    assert_eq!(judged(&[11, 1, 10]), good(32, 12, 1, 8));
     let wrong = judged(&[1]);
-    assert_eq!((wrong.code, wrong.place), (8, 5_382));
+    assert_eq!((wrong.code, wrong.place, wrong.units), (8, 5_382, 2));
 }
 
 /// Power 3 was set from power 0: back by one command of weight 10, or by three of weight 3.
@@ -153,7 +154,7 @@ fn weights() {
 fn q() {
     let book = q_book();
     assert_eq!(book.len(), 225);
-    assert_eq!(checked(&book), good(3, 3, 5));
+    assert_eq!(checked(&book), good(3, 3, 5, 27));
     let found = assembled(&book, &q5_run());
     assert_eq!((found.code, found.commands, found.legs), (0, 1, 1));
 }
@@ -164,11 +165,30 @@ fn grown() {
         for items in [0, 1, 40, 64] {
             for (k, r) in [(1, 0), (1, 1), (2, 5), (8, 3), (8, 8), (1, 8)] {
                 let book = grown_book(n, items, k, r);
-                assert_eq!(checked(&book), good(n as u64, 32, items as u64));
+                let units = items * n * (k + r);
+                let expected = good(n as u64, 32, items as u64, units as u64);
+                assert_eq!(checked(&book), expected);
             }
         }
     }
     assert_eq!(grown_book(64, 64, 8, 8).len(), 31_110);
+}
+
+#[test]
+fn forecasts() {
+    for (book, units, largest_r) in [
+        (largest_book(), 65_536, 8),
+        (branching_book(), 65_536, 8),
+        (ridge_book(), 1_724, 3),
+        (q_book(), 27, 2),
+        (grown_book(7, 5, 2, 6), 280, 6),
+    ] {
+        for i in [0, 5, 32] {
+            let found = forecast(&book, i);
+            assert_eq!((found.code, found.place, found.units), (0, 0, units));
+            assert_eq!((found.plan_bytes, found.legs), (i * largest_r, i));
+        }
+    }
 }
 
 #[test]

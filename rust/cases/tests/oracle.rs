@@ -4,7 +4,8 @@
 
 use rollback_cases::{input, Input};
 use rollback_plain::{
-    assemble, assemble_legs, check, page, portable, read, ridge, write, Assembly, Leg, Lookup,
+    assemble, assemble_legs, check, forecast, page, portable, read, ridge, write, Assembly, Leg,
+    Lookup,
 };
 use std::collections::BTreeSet;
 
@@ -31,10 +32,15 @@ struct Book {
     items: Vec<Item>,
 }
 
-/// What an item is refused with, or 0, and its pairs of a start and an end.
+/// What an item is refused with, or 0; the units made; and, up to the start that
+/// decides, its starts without an end and its pairs of a start and an end.
 struct Judged {
     code: u64,
+    units: usize,
+    without: usize,
     pairs: usize,
+    /// In which of [`EIGHTS`] the item is.
+    eights: [bool; EIGHTS.len()],
 }
 
 /// Steps left before a seed is given up.
@@ -180,64 +186,74 @@ fn parse(bytes: &[u8]) -> Result<Book, (u64, usize)> {
 }
 
 impl Book {
-    /// The last state of every trajectory, one for each trajectory.
-    fn ends(&self, from: usize, commands: &[usize], fuel: &mut Fuel) -> Option<Vec<usize>> {
-        fuel.step()?;
-        let Some((&command, rest)) = commands.split_first() else {
-            return Some(vec![from]);
-        };
-        let mut ends = Vec::new();
-        for &next in &self.outcomes[from][command] {
-            ends.extend(self.ends(next, rest, fuel)?);
-        }
-        Some(ends)
-    }
-
-    /// Whether every partial execution goes on and every complete one ends in
-    /// the start.
-    fn returns(
+    /// Every execution of the commands, as far as it can go on: how many it
+    /// carries out, and the state that it ends in.
+    fn executions(
         &self,
-        at: usize,
+        from: usize,
         commands: &[usize],
-        start: usize,
         fuel: &mut Fuel,
-    ) -> Option<bool> {
+    ) -> Option<Vec<(usize, usize)>> {
         fuel.step()?;
         let Some((&command, rest)) = commands.split_first() else {
-            return Some(at == start);
+            return Some(vec![(0, from)]);
         };
-        let outcomes = &self.outcomes[at][command];
-        if outcomes.is_empty() {
-            return Some(false);
+        let mut found = Vec::new();
+        for &next in &self.outcomes[from][command] {
+            let further = self.executions(next, rest, fuel)?;
+            found.extend(further.iter().map(|&(done, last)| (done + 1, last)));
         }
-        for &next in outcomes {
-            if !self.returns(next, rest, start, fuel)? {
-                return Some(false);
-            }
+        if found.is_empty() {
+            found.push((0, from));
         }
-        Some(true)
+        Some(found)
     }
 
-    /// Lists the starts of an item, each with its ends.
+    /// Lists the starts of an item, each with its ends, up to the first that
+    /// does not come back.
     fn judge(&self, item: &Item, fuel: &mut Fuel) -> Option<Judged> {
-        let (mut pairs, mut undone) = (BTreeSet::new(), true);
-        for &start in &item.psi {
-            for end in self.ends(start, &item.forward, fuel)? {
-                if item.phi.contains(&end) {
-                    pairs.insert((start, end));
-                    undone = undone && self.returns(end, &item.reverse, start, fuel)?;
-                }
-            }
-        }
-        let code = match (undone, pairs.len()) {
-            (false, _) => 8,
-            (true, 0) => 12,
-            (true, _) => 0,
+        let (k, r) = (item.forward.len(), item.reverse.len());
+        let mut judged = Judged {
+            code: 12,
+            units: 0,
+            without: 0,
+            pairs: 0,
+            eights: [false; EIGHTS.len()],
         };
-        Some(Judged {
-            code,
-            pairs: pairs.len(),
-        })
+        for &start in &item.psi {
+            let forward = self.executions(start, &item.forward, fuel)?;
+            let ends: Set = (forward.iter().filter(|&&(done, _)| done == k))
+                .map(|&(_, end)| end)
+                .filter(|end| item.phi.contains(end))
+                .collect();
+            let mut back = Vec::new();
+            for &end in &ends {
+                back.extend(self.executions(end, &item.reverse, fuel)?);
+            }
+            // The commands that all of them carry out.
+            let by_all = back.iter().map(|&(done, _)| done).min().unwrap_or(r);
+            let stuck = by_all < r;
+            judged.units += k + by_all + usize::from(stuck);
+            if stuck || back.iter().any(|&(_, last)| last != start) {
+                judged.code = 8;
+                judged.eights = [
+                    stuck && by_all == 0,
+                    stuck && by_all > 0,
+                    stuck && back.iter().any(|&(done, _)| done > by_all),
+                    !stuck && r > 0,
+                    !stuck && r == 0,
+                    judged.pairs > 0,
+                    judged.without > 0,
+                ];
+                return Some(judged);
+            }
+            judged.pairs += ends.len();
+            judged.without += usize::from(ends.is_empty());
+        }
+        if judged.pairs > 0 {
+            judged.code = 0;
+        }
+        Some(judged)
     }
 
     /// Lists the histories that go on from a path and notes what they have.
@@ -404,19 +420,21 @@ fn planned(book: &Book, run: &[u8], fuel: &mut Fuel) -> Option<(u64, Planned)> {
 struct Expected {
     read: [u64; 5],
     check: [u64; 5],
+    units: usize,
     /// Code and place.
     assemble: [u64; 2],
     planned: Planned,
     /// Where table, slots and weights are read.
     filled: Option<(Vec<u64>, Vec<u8>, Vec<u16>)>,
-    /// In which of [`PLACES`] and [`RECORDS`] the input is.
+    /// In which of [`PLACES`], [`RECORDS`] and [`EIGHTS`] the input is.
     places: [bool; PLACES.len()],
     records: [bool; RECORDS.len()],
+    eights: [bool; EIGHTS.len()],
 }
 
-/// Items that can never be used: where they stand, and why; items that just can be used; and what
-/// weights decide.
-const PLACES: [&str; 14] = [
+/// Items that can never be used: where they stand, and why; items that just can be used; what
+/// weights decide; and units where there is no end.
+const PLACES: [&str; 15] = [
     "12 alone",
     "12 before 8",
     "8 before 12",
@@ -431,6 +449,7 @@ const PLACES: [&str; 14] = [
     "a plan that a chain with fewer commands was given up for",
     "a plan with more commands than a chain of the same sum",
     "a plan with fewer commands than a chain of the same sum",
+    "accepted, a start without an end",
 ];
 
 /// Weights records that are refused, and why.
@@ -441,6 +460,17 @@ const RECORDS: [&str; 6] = [
     "4, weights",
     "3, weights first or later",
     "3, a second weights record",
+];
+
+/// The item that 8 is for: where the count of its units ends.
+const EIGHTS: [&str; 7] = [
+    "8, stuck at the first reverse command",
+    "8, stuck at a later one",
+    "8, stuck where another execution goes on",
+    "8, a run ends outside its start",
+    "8, the same without reverse commands",
+    "8, after a start that comes back",
+    "8, after a start without an end",
 ];
 
 /// What is refused, and where.
@@ -495,6 +525,7 @@ fn places(book: &Book, judged: &[Judged], code: u64, planned: &Planned) -> [bool
         other(|plan, chain| plan.sum < chain.sum && plan.commands > chain.commands),
         other(|plan, chain| plan.sum == chain.sum && plan.commands > chain.commands),
         other(|plan, chain| plan.sum == chain.sum && plan.commands < chain.commands),
+        accepted && judged.iter().any(|item| item.without > 0),
     ]
 }
 
@@ -512,11 +543,13 @@ fn expected(input: &Input) -> Option<Expected> {
     let mut answer = Expected {
         read: [0; 5],
         check: [0; 5],
+        units: 0,
         assemble: [1, 0],
         planned: NOTHING,
         filled: None,
         places: [false; PLACES.len()],
         records: [false; RECORDS.len()],
+        eights: [false; EIGHTS.len()],
     };
     if input.table.len() < 2048 || input.slots.len() < 2176 || input.weights.len() < 32 {
         answer.read[0] = 1;
@@ -556,9 +589,12 @@ fn expected(input: &Input) -> Option<Expected> {
         .collect();
     let judged = judged?;
     let wrong = judged.iter().position(|item| item.code != 0);
+    let made = wrong.map_or(&judged[..], |wrong| &judged[..=wrong]);
+    answer.units = made.iter().map(|item| item.units).sum();
     if let Some(wrong) = wrong {
         let place = book.items[wrong].place as u64;
         answer.check = [judged[wrong].code, place, 0, 0, 0];
+        answer.eights = judged[wrong].eights;
     }
     if !long_enough {
         return Some(answer);
@@ -584,7 +620,7 @@ fn over<T: Clone>(before: &[T], start: &[T]) -> Vec<T> {
 #[test]
 fn books_and_runs() {
     let mut codes = [0; 14];
-    let mut met = [0; PLACES.len() + RECORDS.len()];
+    let mut met = [0; PLACES.len() + RECORDS.len() + EIGHTS.len()];
     let (mut skipped, mut two_legs, mut short_pages) = (0, 0, 0);
     for seed in 0..SEEDS {
         let input = input(seed);
@@ -603,6 +639,7 @@ fn books_and_runs() {
 
         let mut now = untouched.clone();
         let found = check(&input.book, &mut now.0, &mut now.1, &mut now.2);
+        assert_eq!(found.units, expected.units as u64, "units, seed {seed}");
         let found = [found.code, found.place, found.n, found.m, found.items];
         assert_eq!(found, expected.check, "checking, seed {seed}");
         assert!(now == *filled, "after checking, seed {seed}");
@@ -713,14 +750,21 @@ fn books_and_runs() {
 
         codes[found.code as usize] += 1;
         two_legs += usize::from(found.legs >= 2);
-        let places = expected.places.into_iter().chain(expected.records);
+        let Expected {
+            places,
+            records,
+            eights,
+            ..
+        } = expected;
+        let places = places.into_iter().chain(records).chain(eights);
         for (count, is_there) in met.iter_mut().zip(places) {
             *count += usize::from(is_there);
         }
     }
     println!("{SEEDS} seeds, {skipped} skipped, codes {codes:?}, {two_legs} with two legs or more");
     println!("{short_pages} short pages");
-    for (place, count) in PLACES.iter().chain(&RECORDS).zip(met) {
+    let names = PLACES.iter().chain(&RECORDS).chain(&EIGHTS);
+    for (place, count) in names.zip(met) {
         println!("{place}: {count}");
         assert!(count >= 50, "{place}: {count}");
     }
@@ -728,6 +772,110 @@ fn books_and_runs() {
     assert!(codes.iter().all(|&count| count >= 100), "{codes:?}");
     assert!(two_legs >= 800, "{two_legs}");
     assert!(short_pages >= 100, "{short_pages}");
+}
+
+/// Code, place, units, plan bytes and legs.
+fn expected_forecast(book: &[u8], i: u64) -> [u64; 5] {
+    let items = match parse(book) {
+        Ok(book) => book.items,
+        Err((code, place)) => return [code, place as u64, 0, 0, 0],
+    };
+    if i > 32 {
+        return [9, 0, 0, 0, 0];
+    }
+    let (mut units, mut largest) = (0, 0);
+    for item in &items {
+        for _start in &item.psi {
+            units += item.forward.len() + item.reverse.len();
+        }
+        largest = largest.max(item.reverse.len());
+    }
+    [0, 0, units as u64, i * largest as u64, i]
+}
+
+/// Books and numbers of commands that must be among those forecast.
+const FORECASTS: [&str; 8] = [
+    "32 commands",
+    "33 commands",
+    "a faulty book and over 32 commands",
+    "no items, some commands",
+    "a book that 8 is for, with fewer units",
+    "a book that 12 is for, with fewer units",
+    "a plan with as many bytes as forecast",
+    "a plan with as many legs as forecast",
+];
+
+#[test]
+fn forecasts() {
+    let mut codes = [0; 14];
+    let mut met = [0; FORECASTS.len()];
+    for seed in 0..SEEDS {
+        let input = input(seed);
+        let ahead = |i| {
+            let found = forecast(&input.book, i);
+            let [code, place] = [found.code, found.place];
+            let found = [code, place, found.units, found.plan_bytes, found.legs];
+            let expected = expected_forecast(&input.book, i);
+            assert_eq!(found, expected, "seed {seed}, {i} commands");
+            found
+        };
+        let i = input.i;
+        let [code, ..] = ahead(i);
+        let [reading, _, units, ..] = ahead(0);
+
+        // "equal to the forecast on acceptance, at most the forecast on 8 or 12,
+        // 0 on any other refusal"
+        let (mut table, mut slots, mut weights) = (vec![0; 2048], vec![0; 2176], vec![0; 32]);
+        let checked = check(&input.book, &mut table, &mut slots, &mut weights);
+        match checked.code {
+            0 => assert_eq!(checked.units, units, "seed {seed}"),
+            8 | 12 => assert!(checked.units <= units, "seed {seed}"),
+            _ => assert_eq!((checked.units, units), (0, 0), "seed {seed}"),
+        }
+
+        // "plan bytes and legs that no run of i commands exceeds"
+        let planned = assemble(
+            &input.book,
+            &input.run,
+            &mut table,
+            &mut slots,
+            &mut weights,
+            &mut [0; 256],
+            &mut [0; 96],
+        );
+        let (mut all_bytes, mut all_legs) = (false, false);
+        if planned.code == 0 {
+            let [_, _, _, plan_bytes, legs] = ahead(u64::from(input.run[4]));
+            assert!(planned.commands <= plan_bytes, "seed {seed}");
+            assert!(planned.legs <= legs, "seed {seed}");
+            all_bytes = plan_bytes > 0 && planned.commands == plan_bytes;
+            all_legs = legs > 0 && planned.legs == legs;
+        }
+
+        codes[code as usize] += 1;
+        let fewer = checked.units < units;
+        let is_there = [
+            code == 0 && i == 32,
+            code == 9 && i == 33,
+            reading != 0 && i > 32,
+            checked.code == 0 && checked.items == 0 && (1..=32).contains(&i),
+            checked.code == 8 && fewer,
+            checked.code == 12 && fewer,
+            all_bytes,
+            all_legs,
+        ];
+        for (count, is_there) in met.iter_mut().zip(is_there) {
+            *count += usize::from(is_there);
+        }
+    }
+    println!("forecasts: codes {codes:?}");
+    for (place, count) in FORECASTS.iter().zip(met) {
+        println!("{place}: {count}");
+        assert!(count >= 50, "{place}: {count}");
+    }
+    let answered = [0, 2, 3, 4, 5, 6, 7, 9, 13];
+    let enough = answered.iter().all(|&code: &usize| codes[code] >= 100);
+    assert!(enough, "{codes:?}");
 }
 
 fn expected_writing(input: &Input) -> (u64, u64, Vec<u8>) {

@@ -95,7 +95,7 @@ fn prepare<'a>(
     if !long_enough {
         return Err(Fault::new(1, 0));
     }
-    let found = check_book(book, &mut lent)?;
+    let found = check_book(book, &mut lent, &mut 0)?;
     let Lent {
         table,
         slots,

@@ -9,6 +9,7 @@ use std::ops::RangeInclusive;
 
 mod accept;
 mod assemble;
+mod forecast;
 mod lookup;
 mod page;
 mod portable;
@@ -20,6 +21,7 @@ mod slot;
 mod write;
 
 pub use assemble::{assemble, assemble_legs};
+pub use forecast::forecast;
 pub use page::page;
 pub use portable::portable;
 pub use read::{check, read};
@@ -45,7 +47,7 @@ pub(crate) const POINTS: usize = RUN + 1;
 /// Bytes of the largest book.
 pub(crate) const BOOK: usize = 31_178;
 
-/// What reading and checking answer.
+/// What reading answers.
 #[derive(Clone, Copy, Debug, PartialEq, Eq)]
 pub struct Reading {
     pub code: u64,
@@ -53,6 +55,27 @@ pub struct Reading {
     pub n: u64,
     pub m: u64,
     pub items: u64,
+}
+
+/// What checking answers: with the units that it made.
+#[derive(Clone, Copy, Debug, PartialEq, Eq)]
+pub struct Checking {
+    pub code: u64,
+    pub place: u64,
+    pub n: u64,
+    pub m: u64,
+    pub items: u64,
+    pub units: u64,
+}
+
+/// What a forecast answers.
+#[derive(Clone, Copy, Debug, PartialEq, Eq)]
+pub struct Forecasted {
+    pub code: u64,
+    pub place: u64,
+    pub units: u64,
+    pub plan_bytes: u64,
+    pub legs: u64,
 }
 
 /// What assembling answers.

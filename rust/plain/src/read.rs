@@ -3,7 +3,7 @@
 use crate::accept::judge;
 use crate::sets::all;
 use crate::slot::{self, Slot};
-use crate::{Fault, Lent, Reading, ITEMS, SLOTS, TABLE, WEIGHT, WEIGHTS};
+use crate::{Checking, Fault, Lent, Reading, ITEMS, SLOTS, TABLE, WEIGHT, WEIGHTS};
 
 const DEVICE: u16 = 1;
 const MOVE: u16 = 2;
@@ -25,6 +25,13 @@ pub(crate) struct Book {
     moves: usize,
 }
 
+/// What a forecast takes of an item.
+pub(crate) struct Item {
+    pub k: u64,
+    pub r: u64,
+    pub psi: u64,
+}
+
 pub fn read(book: &[u8], table: &mut [u64], slots: &mut [u8], weights: &mut [u16]) -> Reading {
     let lent = &mut Lent {
         table,
@@ -35,13 +42,28 @@ pub fn read(book: &[u8], table: &mut [u64], slots: &mut [u8], weights: &mut [u16
 }
 
 /// "checking a book is reading and 8"; 12 is "judged item by item beside 8"
-pub fn check(book: &[u8], table: &mut [u64], slots: &mut [u8], weights: &mut [u16]) -> Reading {
+pub fn check(book: &[u8], table: &mut [u64], slots: &mut [u8], weights: &mut [u16]) -> Checking {
     let lent = &mut Lent {
         table,
         slots,
         weights,
     };
-    answer(check_book(book, lent))
+    let mut units = 0;
+    let Reading {
+        code,
+        place,
+        n,
+        m,
+        items,
+    } = answer(check_book(book, lent, &mut units));
+    Checking {
+        code,
+        place,
+        n,
+        m,
+        items,
+        units,
+    }
 }
 
 fn answer(result: Result<Book, Fault>) -> Reading {
@@ -68,16 +90,17 @@ fn read_book(book: &[u8], lent: &mut Lent) -> Result<Book, Fault> {
         return Err(Fault::new(1, 0));
     }
     // Nothing is written before the whole book is known to be good.
-    let found = survey(book)?;
+    let found = survey(book, |_| ())?;
     fill(book, &found, lent);
     Ok(found)
 }
 
-pub(crate) fn check_book(book: &[u8], lent: &mut Lent) -> Result<Book, Fault> {
+/// Adds the units that it makes.
+pub(crate) fn check_book(book: &[u8], lent: &mut Lent, units: &mut u64) -> Result<Book, Fault> {
     let found = read_book(book, lent)?;
     let mut place = found.moves_at + MOVE_SIZE * found.moves;
     for slot in used(lent.slots, found.items) {
-        judge(lent.table, found.m, slot).map_err(|code| Fault::new(code, place))?;
+        judge(lent.table, found.m, slot, units).map_err(|code| Fault::new(code, place))?;
         place += slot::record_size(slot);
     }
     Ok(found)
@@ -89,8 +112,8 @@ pub(crate) fn used(slots: &[u8], items: usize) -> &[Slot] {
 }
 
 /// Judges every record: "2, 3, 7, 4, 5, 6, the first faulty record deciding";
-/// 13 is "after 5 for that record".
-fn survey(book: &[u8]) -> Result<Book, Fault> {
+/// 13 is "after 5 for that record". Passes each good item on as it stands.
+pub(crate) fn survey(book: &[u8], mut pass: impl FnMut(Item)) -> Result<Book, Fault> {
     let (kind, body) = record(book, 0)?;
     if kind != DEVICE {
         return Err(Fault::new(3, 0));
@@ -141,7 +164,7 @@ fn survey(book: &[u8]) -> Result<Book, Fault> {
                 if found.items == ITEMS {
                     return Err(fault(7));
                 }
-                item_body(body, m, outside).map_err(fault)?;
+                pass(item_body(body, m, outside).map_err(fault)?);
                 found.items += 1;
             }
             _ => return Err(fault(3)),
@@ -172,27 +195,26 @@ fn weights_body(body: &[u8], m: usize) -> Result<(), u64> {
 
 /// "In an item a body under 2 bytes is 4, then k or r out of range is 5, then
 /// length other than 18 + k + r is 4, then the rest."
-fn item_body(body: &[u8], m: u8, outside: u64) -> Result<(), u64> {
+fn item_body(body: &[u8], m: u8, outside: u64) -> Result<Item, u64> {
     let &[k, r, ref rest @ ..] = body else {
         return Err(4);
     };
     if !(1..=8).contains(&k) || r > 8 {
         return Err(5);
     }
-    let count = usize::from(k + r);
-    if rest.len() != 16 + count {
+    let (commands, masks) = rest.split_at_checked(usize::from(k + r)).ok_or(4u64)?;
+    let (&[phi, psi], []) = masks.as_chunks() else {
         return Err(4);
-    }
-    let (commands, masks) = rest.split_at(count);
-    let wild = masks
-        .as_chunks()
-        .0
-        .iter()
-        .any(|&mask| u64::from_le_bytes(mask) & outside != 0);
-    if wild || commands.iter().any(|&command| command >= m) {
+    };
+    let [phi, psi] = [phi, psi].map(u64::from_le_bytes);
+    if (phi | psi) & outside != 0 || commands.iter().any(|&command| command >= m) {
         return Err(5);
     }
-    Ok(())
+    Ok(Item {
+        k: k.into(),
+        r: r.into(),
+        psi,
+    })
 }
 
 /// The kind and body of the record at an offset, or 2 where it is cut off.

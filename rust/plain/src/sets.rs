@@ -32,6 +32,12 @@ pub(crate) fn after(table: &[u64], m: usize, set: u64, command: u8) -> u64 {
     states(set).fold(0, |union, s| union | table[s * m + command])
 }
 
+/// Whether every state of a set can carry the command out.
+pub(crate) fn able(table: &[u64], m: usize, set: u64, command: u8) -> bool {
+    let command = usize::from(command);
+    states(set).all(|s| table[s * m + command] != 0)
+}
+
 /// The states of a set from which the command may lead into `target`.
 pub(crate) fn before(table: &[u64], m: usize, set: u64, command: u8, target: u64) -> u64 {
     let command = usize::from(command);

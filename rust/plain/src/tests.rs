@@ -1,5 +1,6 @@
 //! The marked twelve cases on the small device Q, items that can never be used,
-//! plans on paper, weights, and facts of the two devices with a constant table.
+//! plans on paper, weights, units and forecasts, and facts of the two devices
+//! with a constant table.
 
 use super::*;
 
@@ -52,11 +53,11 @@ fn run(commands: &[u8], sightings: &[u64]) -> Vec<u8> {
     bytes
 }
 
-fn checked(items: &[Item]) -> Reading {
+fn checked(items: &[Item]) -> Checking {
     checked_of(&book(items))
 }
 
-fn checked_of(book: &[u8]) -> Reading {
+fn checked_of(book: &[u8]) -> Checking {
     check(book, &mut [0; 2048], &mut [0; 2176], &mut [0; 32])
 }
 
@@ -128,23 +129,25 @@ fn the_book_of_q() {
 
 #[test]
 fn q1_all_five_are_accepted() {
-    let good = Reading {
+    let good = Checking {
         code: 0,
         place: 0,
         n: 3,
         m: 3,
         items: 5,
+        units: 9 + 2 + 9 + 1 + 6,
     };
     assert_eq!(checked(&Q), good);
 }
 
-fn refused(code: u64, place: u64) -> Reading {
-    Reading {
+fn refused(code: u64, place: u64, units: u64) -> Checking {
+    Checking {
         code,
         place,
         n: 0,
         m: 0,
         items: 0,
+        units,
     }
 }
 
@@ -155,19 +158,22 @@ const NO_TRAJECTORY: Item = (&[2, 2], &[], 7, 7);
 
 #[test]
 fn q2_item_1_with_psi_3_is_not() {
-    assert_eq!(checked(&[PSI_3]), refused(8, 104));
-    assert_eq!(checked(&[Q[0], PSI_3]), refused(8, 104 + 25));
+    assert_eq!(checked(&[PSI_3]), refused(8, 104, 4));
+    assert_eq!(checked(&[Q[0], PSI_3]), refused(8, 104 + 25, 9 + 4));
 }
 
 #[test]
 fn q3_stuck_is_not() {
-    assert_eq!(checked(&[STUCK]), refused(8, 104));
+    assert_eq!(checked(&[STUCK]), refused(8, 104, 2));
 }
 
 #[test]
 fn q4_no_trajectory_is_not_effective() {
-    assert_eq!(checked(&[NO_TRAJECTORY]), refused(12, 104));
-    assert_eq!(checked(&[Q[0], NO_TRAJECTORY]), refused(12, 104 + 25));
+    assert_eq!(checked(&[NO_TRAJECTORY]), refused(12, 104, 6));
+    assert_eq!(
+        checked(&[Q[0], NO_TRAJECTORY]),
+        refused(12, 104 + 25, 9 + 6)
+    );
 }
 
 #[test]
@@ -176,8 +182,17 @@ fn one_start_and_one_end_are_enough() {
     for (phi, psi) in [(4, 1), (4, 7), (5, 7), (2, 3)] {
         assert_eq!(checked(&[(&[2], &[0], phi, psi)]).code, 0);
     }
-    for (phi, psi) in [(1, 1), (1, 7), (4, 6), (7, 6), (7, 0), (0, 7), (0, 0)] {
-        assert_eq!(checked(&[(&[2], &[0], phi, psi)]), refused(12, 104));
+    for (phi, psi, units) in [
+        (1, 1, 2),
+        (1, 7, 6),
+        (4, 6, 4),
+        (7, 6, 4),
+        (7, 0, 0),
+        (0, 7, 6),
+        (0, 0, 0),
+    ] {
+        let found = checked(&[(&[2], &[0], phi, psi)]);
+        assert_eq!(found, refused(12, 104, units));
     }
 }
 
@@ -192,13 +207,16 @@ fn without_an_end_no_reverse_is_wrong() {
 
 #[test]
 fn the_first_wrong_item_decides() {
-    assert_eq!(checked(&[NO_TRAJECTORY, STUCK]), refused(12, 104));
-    assert_eq!(checked(&[STUCK, NO_TRAJECTORY]), refused(8, 104));
+    assert_eq!(checked(&[NO_TRAJECTORY, STUCK]), refused(12, 104, 6));
+    assert_eq!(checked(&[STUCK, NO_TRAJECTORY]), refused(8, 104, 2));
     assert_eq!(
         checked(&[Q[3], NO_TRAJECTORY, PSI_3]),
-        refused(12, 104 + 23)
+        refused(12, 104 + 23, 1 + 6)
     );
-    assert_eq!(checked(&[Q[3], PSI_3, NO_TRAJECTORY]), refused(8, 104 + 23));
+    assert_eq!(
+        checked(&[Q[3], PSI_3, NO_TRAJECTORY]),
+        refused(8, 104 + 23, 1 + 4)
+    );
 }
 
 #[test]
@@ -322,7 +340,7 @@ impl Lent {
         read(book, &mut self.table, &mut self.slots, &mut self.weights)
     }
 
-    fn check(&mut self, book: &[u8]) -> Reading {
+    fn check(&mut self, book: &[u8]) -> Checking {
         check(book, &mut self.table, &mut self.slots, &mut self.weights)
     }
 
@@ -445,6 +463,13 @@ fn a_short_page_is_refused_first() {
         sum: 0,
         fewest: fewest(&[]),
     };
+    let short_reading = Reading {
+        code: 1,
+        place: 0,
+        n: 0,
+        m: 0,
+        items: 0,
+    };
     for book in [book(&Q), book(&[STUCK]), vec![]] {
         for which in 0..6 {
             for length in [0, 1, STATED[which] - 1] {
@@ -454,8 +479,8 @@ fn a_short_page_is_refused_first() {
                 let found = lent.page(&book, &good);
                 assert_eq!((found.assembly, found.length), (short, 0));
                 if which < 3 {
-                    assert_eq!(lent.read(&book), refused(1, 0));
-                    assert_eq!(lent.check(&book), refused(1, 0));
+                    assert_eq!(lent.read(&book), short_reading);
+                    assert_eq!(lent.check(&book), refused(1, 0, 0));
                 }
                 if which < 5 {
                     assert_eq!(lent.assemble(&book, &good), short);
@@ -608,12 +633,16 @@ fn weights_are_read() {
     }
 }
 
-/// Reading leaves every buffer as it was.
+/// Reading leaves every buffer as it was. A forecast refuses the same, whatever
+/// i is.
 fn reading_refused(book: &[u8]) -> (u64, u64) {
     let (mut lent, sent) = (Lent::new(STATED), run(&[], &[7]));
     let found = lent.read(book);
-    assert_eq!(lent.check(book), found);
     assert_eq!((found.n, found.m, found.items), (0, 0, 0));
+    assert_eq!(lent.check(book), refused(found.code, found.place, 0));
+    for i in [0, 32, 33] {
+        assert_eq!(forecasted(book, i), [found.code, found.place, 0, 0, 0]);
+    }
     let paged = lent.page(book, &sent).assembly;
     assert_eq!((paged.code, paged.place), (found.code, found.place));
     assert_eq!((paged.sum, paged.fewest), (0, fewest(&[])));
@@ -767,6 +796,197 @@ fn the_largest_book() {
     assert_eq!(reading_refused(&out), (2, 31_178));
     let found = write(64, 32, 64, &table, &slots, &weights, &mut out[..31_177]);
     assert_eq!((found.code, found.place, found.length), (1, 0, 0));
+}
+
+// Units and forecasts
+
+/// A ladder of four rungs: command 0 goes up by one, 1 down by one, 2 from the
+/// lowest to the second or the highest.
+fn ladder(items: &[Item]) -> Vec<u8> {
+    let mut bytes = vec![2, 0, 1, 0, 4, 3];
+    for (state, command, mask) in [
+        (0, 0, 2),
+        (0, 2, 10),
+        (1, 0, 4),
+        (1, 1, 1),
+        (2, 0, 8),
+        (2, 1, 2),
+        (3, 1, 4),
+    ] {
+        bytes.extend([10, 0, 2, 0, state, command, mask, 0, 0, 0, 0, 0, 0, 0]);
+    }
+    bytes.extend(items.iter().flat_map(item));
+    bytes
+}
+
+/// What checking a book of the ladder answers: code and units.
+fn made(items: &[Item]) -> (u64, u64) {
+    let found = checked_of(&ladder(items));
+    (found.code, found.units)
+}
+
+/// Code, place, units, plan bytes and legs.
+fn forecasted(book: &[u8], i: u64) -> [u64; 5] {
+    let found = forecast(book, i);
+    [
+        found.code,
+        found.place,
+        found.units,
+        found.plan_bytes,
+        found.legs,
+    ]
+}
+
+/// Of all starts the highest has no end.
+const UP: Item = (&[0], &[1], 15, 15);
+
+#[test]
+fn a_start_without_an_end_costs_the_same() {
+    for (item, units) in [
+        (UP, 8),
+        ((&[0], &[1], 15, 7), 6),
+        ((&[0], &[0, 0, 1, 1, 1], 15, 9), 12),
+        // Only the lowest goes on at all.
+        ((&[2, 1], &[], 1, 15), 8),
+        ((&[2, 1, 0], &[1, 0, 1], 2, 15), 24),
+    ] {
+        assert_eq!(made(&[item]), (0, units));
+        assert_eq!(forecasted(&ladder(&[item]), 0), [0, 0, units, 0, 0]);
+        assert_eq!(made(&[UP, item, UP]), (0, 8 + units + 8));
+    }
+}
+
+#[test]
+fn units_up_to_the_command_that_is_stuck() {
+    // From 0 the reverse comes back, from 1 the second command is stuck, from 2
+    // the first.
+    let over = |psi| made(&[(&[0], &[0, 0, 1, 1, 1], 15, psi)]);
+    assert_eq!(over(1), (0, 6));
+    assert_eq!(over(2), (8, 3));
+    assert_eq!(over(4), (8, 2));
+    assert_eq!(over(3), (8, 6 + 3));
+    assert_eq!(over(5), (8, 6 + 2));
+    // The lowest start decides.
+    assert_eq!(over(6), (8, 3));
+    assert_eq!(over(12), (8, 2));
+    // After a start without an end.
+    assert_eq!(made(&[(&[1], &[1, 0, 0], 15, 3)]), (8, 4 + 2));
+    // One of two states is stuck, the other could go on.
+    assert_eq!(made(&[(&[2], &[0], 15, 1)]), (8, 2));
+    assert_eq!(made(&[(&[2], &[1, 1, 0, 0], 15, 1)]), (8, 3));
+}
+
+#[test]
+fn units_where_a_run_ends_outside_its_start() {
+    assert_eq!(made(&[(&[0], &[0], 15, 1)]), (8, 2));
+    assert_eq!(made(&[(&[0, 0], &[1], 15, 3)]), (8, 3));
+    // One of two runs.
+    assert_eq!(made(&[(&[2], &[1], 15, 1)]), (8, 2));
+    // Without reverse commands the forward ones count.
+    assert_eq!(made(&[(&[0], &[], 15, 1)]), (8, 1));
+    assert_eq!(made(&[(&[0, 0], &[], 15, 3)]), (8, 2));
+    assert_eq!(made(&[(&[1], &[], 15, 3)]), (8, 1 + 1));
+}
+
+#[test]
+fn units_of_an_item_that_can_never_be_used() {
+    for (phi, psi, units) in [(1, 15, 12), (15, 8, 3), (15, 0, 0), (0, 5, 6)] {
+        // With an end no start comes back.
+        assert_eq!(made(&[(&[0], &[0, 0], phi, psi)]), (12, units));
+    }
+}
+
+#[test]
+fn units_of_the_items_before_count() {
+    let stuck: Item = (&[0], &[0, 0, 1, 1, 1], 15, 2);
+    let never: Item = (&[0], &[1, 1], 1, 15);
+    assert_eq!(made(&[]), (0, 0));
+    assert_eq!(made(&[UP, stuck, UP]), (8, 8 + 3));
+    assert_eq!(made(&[UP, UP, never, stuck]), (12, 8 + 8 + 12));
+    assert_eq!(made(&[UP, stuck, never]), (8, 8 + 3));
+}
+
+#[test]
+fn forecasts_of_q() {
+    let q = book(&Q);
+    for weights in [&[][..], &[7, 1, 1000]] {
+        let q = weighted(&q, weights);
+        assert_eq!(forecasted(&q, 0), [0, 0, 27, 0, 0]);
+        assert_eq!(forecasted(&q, 1), [0, 0, 27, 2, 1]);
+        assert_eq!(forecasted(&q, 32), [0, 0, 27, 64, 32]);
+        for i in [33, 256, (1 << 32) + 5, u64::MAX] {
+            assert_eq!(forecasted(&q, i), [9, 0, 0, 0, 0]);
+        }
+    }
+    // The largest r, wherever it stands.
+    assert_eq!(forecasted(&book(&[Q[3]]), 32), [0, 0, 1, 0, 32]);
+    assert_eq!(forecasted(&book(&[Q[3], Q[1]]), 5), [0, 0, 3, 5, 5]);
+    assert_eq!(forecasted(&book(&[Q[1], Q[0], Q[3]]), 5), [0, 0, 12, 10, 5]);
+}
+
+#[test]
+fn a_forecast_without_items() {
+    let device = [2, 0, 1, 0, 64, 32];
+    for book in [&book(&[])[..], &device] {
+        assert_eq!(forecasted(book, 0), [0; 5]);
+        assert_eq!(forecasted(book, 32), [0, 0, 0, 0, 32]);
+        assert_eq!(forecasted(book, 33), [9, 0, 0, 0, 0]);
+    }
+}
+
+/// Items that checking turns down count whole.
+#[test]
+fn a_forecast_does_not_judge() {
+    assert_eq!(forecasted(&book(&[STUCK]), 3), [0, 0, 6, 3, 3]);
+    assert_eq!(
+        forecasted(&book(&[PSI_3, NO_TRAJECTORY, Q[0]]), 3),
+        [0, 0, 4 + 6 + 9, 6, 3]
+    );
+}
+
+#[test]
+fn a_forecast_refuses_as_reading_does() {
+    let q = book(&Q);
+    let with = |at: usize, byte| {
+        let mut bytes = q.clone();
+        bytes[at] = byte;
+        reading_refused(&bytes)
+    };
+    assert_eq!(reading_refused(&[]), (2, 0));
+    assert_eq!(reading_refused(&q[..103]), (2, 90));
+    assert_eq!(reading_refused(&q[..224]), (2, 201));
+    // The second item at 129: its kind, its length, its r, its psi.
+    assert_eq!(with(131, 9), (3, 129));
+    assert_eq!(with(129, 19), (4, 129));
+    assert_eq!(with(129, 21), (4, 129));
+    assert_eq!(with(134, 9), (5, 129));
+    assert_eq!(with(145, 8), (5, 129));
+    let fallen = [&q[..6], &q[20..34], &q[6..20], &q[34..]].concat();
+    assert_eq!(reading_refused(&fallen), (6, 20));
+    assert_eq!(reading_refused(&book(&[Q[0]; 65])), (7, 104 + 64 * 25));
+    assert_eq!(reading_refused(&weighted(&q, &[1, 1, 1])), (13, 6));
+}
+
+/// "The forecast never exceeds 65,536."
+#[test]
+fn the_most_units() {
+    let mut bytes = vec![2, 0, 1, 0, 64, 1];
+    for state in 0..64 {
+        bytes.extend([10, 0, 2, 0, state, 0]);
+        bytes.extend((1u64 << state).to_le_bytes());
+    }
+    let largest = item(&(&[0; 8], &[0; 8], u64::MAX, u64::MAX));
+    bytes.extend(largest.repeat(64));
+    let good = Checking {
+        code: 0,
+        place: 0,
+        n: 64,
+        m: 1,
+        items: 64,
+        units: 65_536,
+    };
+    assert_eq!(checked_of(&bytes), good);
+    assert_eq!(forecasted(&bytes, 32), [0, 0, 65_536, 256, 32]);
 }
 
 fn found(mask: u64) -> Lookup {

@@ -1,8 +1,8 @@
 //! Every case that a second program has answered.
 
-use rollback_cases::{assemble_cases, book_cases, masks, page_cases, write_cases};
+use rollback_cases::{assemble_cases, book_cases, forecast_cases, masks, page_cases, write_cases};
 use rollback_plain::{
-    assemble, assemble_legs, check, page, portable, read, ridge, write, Leg, Lookup,
+    assemble, assemble_legs, check, forecast, page, portable, read, ridge, write, Leg, Lookup,
 };
 
 fn finds(lookup: fn(u64, u64) -> Lookup, commands: u64, masks: &[u64]) {
@@ -40,7 +40,14 @@ fn books_are_read_and_checked() {
 
         let (mut table, mut slots, mut weights) = before();
         let found = check(&case.book, &mut table, &mut slots, &mut weights);
-        let found = [found.code, found.place, found.n, found.m, found.items];
+        let found = [
+            found.code,
+            found.place,
+            found.n,
+            found.m,
+            found.items,
+            found.units,
+        ];
         assert_eq!(found, case.checking, "checking, case {number}");
         assert_eq!(table[..40], case.table_after, "table, case {number}");
         assert_eq!(slots[..102], case.slots_after, "slots, case {number}");
@@ -77,6 +84,23 @@ fn books_are_read_and_checked() {
             case.slots[bytes..],
             "case {number}"
         );
+    }
+}
+
+#[test]
+fn checks_are_forecast() {
+    let cases = forecast_cases();
+    assert_eq!(cases.len(), 900);
+    for (number, case) in cases.iter().enumerate() {
+        let found = forecast(&case.book, case.i);
+        let found = [
+            found.code,
+            found.place,
+            found.units,
+            found.plan_bytes,
+            found.legs,
+        ];
+        assert_eq!(found, case.answer, "case {number}");
     }
 }
 

@@ -9,7 +9,7 @@ use Rattle.base.specs.Lists.{Bytes}
 use Rattle.base.proofs.Lists.{each-of}
 use Rattle.base.proofs.Sizes.{short-here, short-past}
 use Rattle.book.specs.Lent.{Lent, lent}
-use Rattle.reader.specs.declared.Reading.{Reading}
+use Rattle.checker.specs.declared.Checking.{Checking}
 use Rattle.assembly.specs.Lent.{AllLent, allLent}
 use Rattle.assembly.proofs.WaysOfAssemble as ways
 use Rattle.assembly.proofs.WaysOfAssemble.{Entered, FineRun, NumbersKnown}
@@ -67,7 +67,7 @@ run-bytes : (c : tie.After-slice-known5) → Bytes (start c .args .run .now)
 run-bytes c = each-of (λ x. x < 256) (start c .args .run .now) 0 (λ i h. omega (arith, c .before .before .before .before .before .shared-slice-known2 .given i))
 
 -- of the call's arguments, and of what checking gave and left
-abbrev Of : ((book run : List ℕ) → AllLent ℕ → Reading → Lent → Type 0) → tie.After-check → Type 0
+abbrev Of : ((book run : List ℕ) → AllLent ℕ → Checking → Lent → Type 0) → tie.After-check → Type 0
 Of P c =
     let a = start (entry c) .args in
     P (a .book .now) (a .run .now) (allLent (lent (a .table .now) (a .slots .now) (a .weights .now)) (a .plan .now) (a .legs .now)) (c .check .result)

@@ -11,7 +11,7 @@ use Rattle.octets.proofs.u64_at.Reads as u64-at-reads
 
 -- past the end no item stands
 returns : tie.Need-returns
-returns c = record { past = λ l. absurd (omega arith); fields = λ h. absurd (omega (arith, in-book h)); next = λ h. absurd (omega (arith, in-book h)) }
+returns c = record { k-byte = omega arith; r-byte = omega arith; past = λ l. absurd (omega arith); fields = λ h. absurd (omega (arith, in-book h)); next = λ h. absurd (omega (arith, in-book h)) }
 
 add-byte-at : tie.Need-add-byte-at
 add-byte-at c = search needs
@@ -49,7 +49,8 @@ add-t10 c = search needs
 returns-2 : tie.Need-returns-2
 returns-2 c =
     let a = c .before .before .before .before .before .before .args in
-    read-item (a .book .now) (a .at) _ _ (c .before .before .before .byte-at .ensures .0) (c .before .before .byte-at2 .ensures .0) _ _ (c .before .u64-at .ensures)
+    read-item (a .book .now) (a .at) _ _ (c .before .before .before .byte-at .ensures .0) (c .before .before .byte-at2 .ensures .0) (c .before .before .before .byte-at .ensures .1)
+    (c .before .before .byte-at2 .ensures .1) _ _ (c .before .u64-at .ensures)
     (c .u64-at2 .ensures)
 
 pub item-at-spec : {M : Type 1} → statement M

@@ -21,7 +21,7 @@ returns : tie.Need-returns
 returns c =
     let k = c .before .before in
     let a = k .before .before .before .before .args in
-    (over-empty (a .s .now) (a .at) (a .st) (told (a .s .now) (a .at) (k .enum-told .given .1) (k .before .before .head-at .ensures)) (c .if1 .taken), tt)
+    (over-empty (a .s .now) (a .at) (a .st) (told (a .s .now) (a .at) (k .enum-told .given .1) (k .before .before .head-at .ensures)) (c .if1 .taken), tt, tt)
 
 enum-told-2 : tie.Need-enum-told-2
 enum-told-2 c = search needs
@@ -82,12 +82,13 @@ returns-2 c =
     let k = c .before .before in
     let e = k .before .before .before .before in
     let a = e .args in
-    (over-end (a .s .now) (a .at) (a .st) (told (a .s .now) (a .at) (k .enum-told .given .1) (k .before .before .head-at .ensures)) (c .if1 .left), e .pre .0)
+    let t = told (a .s .now) (a .at) (k .enum-told .given .1) (k .before .before .head-at .ensures) in
+    (over-end (a .s .now) (a .at) (a .st) t (c .if1 .left), e .pre .0, t)
 
 returns-3 : tie.Need-returns-3
 returns-3 c =
     let a = c .before .before .before .before .args in
-    (over-short (a .s .now) (a .at) (a .st) (told (a .s .now) (a .at) (c .enum-told2 .given .1) (c .before .before .head-at .ensures)), tt)
+    (over-short (a .s .now) (a .at) (a .st) (told (a .s .now) (a .at) (c .enum-told2 .given .1) (c .before .before .head-at .ensures)), tt, tt)
 
 returns-4 : tie.Need-returns-4
 returns-4 c =
@@ -108,7 +109,7 @@ returns-5 c =
     let h = stood (a .s .now) (a .at) (f .1) (k .before .before .head-at .ensures) in
     let g = c .before .before .before in
     let e = c .before .step2 .given in
-    (stops (a .s .now) (a .at) (a .st) (f .0 .0) (f .0 .1 .0) h (g .record-step .result) (g .record-step .ensures .0) (e .0 .0) (e .1), tt)
+    (stops (a .s .now) (a .at) (a .st) (f .0 .0) (f .0 .1 .0) h (g .record-step .result) (g .record-step .ensures .0) (e .0 .0) (e .1), tt, tt)
 
 pub turn-at-spec : {M : Type 1} → statement M
 turn-at-spec =

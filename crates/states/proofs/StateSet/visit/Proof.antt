@@ -3,7 +3,7 @@
 use mathlib.Core.Path.{_∙_}
 use native.Mathlib.Omega.{arith}
 use borrow.Author.Needs.{needs}
-use Rattle.base.specs.Masks.{cardinality}
+use Rattle.base.specs.Cardinality.{cardinality}
 use Rattle.base.proofs.Visiting.{Visiting, visit-next, visit-end, cardinality-less}
 use Rattle.states.specs.StateSets.{visitedIn}
 use Rattle.states.proofs.Laws.{states-over, commands-over, gain, mask-of, visited-out, visited-all, visits-left}

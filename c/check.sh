@@ -3,7 +3,8 @@
 # The headers under every standard that gcc and clang have; the archive's names; the constant tables against the
 # generator, where rt check tables has built it; every call between guard pages and, where valgrind is present,
 # under it, CALLS times each (100,000); the stack that rollback.h states; the C and the Rust example on the same
-# inputs, as a plan and as a page; README's example and docs/FORMAT.md's bytes and page. Its last line says it all.
+# inputs, as a plan, as a plan with little memory and as a page; README's example and docs/FORMAT.md's bytes and page.
+# Its last line says it all.
 set -eu
 cd "$(dirname "$0")/.."
 calls=${1:-100000}
@@ -56,7 +57,7 @@ bytes_of() { od -An -v -tx1 "$1" | tr -d ' \n'; }
 
 part='names'
 c/names.sh "$archive"
-say '9 names'
+say '10 names'
 
 part='constant tables'
 if [ -x target/bin/tables ]; then
@@ -129,12 +130,12 @@ if command -v cargo >/dev/null; then
     cargo build -q --release --manifest-path rust/Cargo.toml --example plan --example ridge
     rust=rust/target/release/examples
     tried=0
-    # Without and with --page: one status, the same words. A page has lines of 40 characters, and the commands
-    # down the page are the plan.
+    # Without an option, with --small and with --page: one status, the same words. With little memory the plan is
+    # the same. A page has lines of 40 characters, and the commands down the page are the plan.
     try() { # status, arguments
         expected=$1
         shift
-        for option in '' --page; do
+        for option in '' --small --page; do
             part="examples: $option $*"
             status=0; "$work/plan" ${option:+"$option"} "$@" >"$work/c.out" 2>"$work/c.err" || status=$?
             [ $status -eq "$expected" ] || { echo "C: status $status"; cat "$work/c.out" "$work/c.err"; exit 1; }
@@ -145,9 +146,10 @@ if command -v cargo >/dev/null; then
             [ "$expected" -eq 2 ] || cmp "$work/c.err" "$work/rust.err"
             [ "$expected" -eq 0 ] || { [ -s "$work/c.err" ] && [ -s "$work/rust.err" ] && [ ! -s "$work/c.out" ]; }
             [ -n "$option" ] || { cp "$work/c.out" "$work/plan.out"; cp "$work/c.err" "$work/plan.err"; }
+            [ "$option" != --small ] || cmp "$work/plan.out" "$work/c.out"
+            cmp "$work/plan.err" "$work/c.err"
         done
         tried=$((tried + 1))
-        cmp "$work/plan.err" "$work/c.err"
         if [ "$expected" -eq 0 ]; then
             [ -z "$(grep -v '^.\{40\}$' "$work/c.out")" ]
             [ "$(sed -n '1s/^send \(nothing\)\{0,1\}//p' "$work/plan.out")" = "$(cut -c 17- "$work/c.out" | xargs)" ]
@@ -174,10 +176,11 @@ if command -v cargo >/dev/null; then
     try 2 "$in/book.bin"
     try 2 "$in/book.bin" "$in/run.bin" "$in/run.bin"
     try 2 "$in/book.bin" "$in/run.bin" --page
+    try 2 "$in/book.bin" "$in/run.bin" --small
     try 2 "$in/missing" "$in/run.bin"
     try 2 "$in/book.bin" "$in/missing"
     try 2 "$in" "$in/run.bin"
-    say "C and Rust example alike on $tried inputs, plan and page"
+    say "C and Rust example alike on $tried inputs, plan, with little memory too, and page"
 
     part='crate without std'
     cargo build -q --release --manifest-path rust/Cargo.toml --no-default-features --lib

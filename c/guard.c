@@ -4,7 +4,8 @@
  * pages  Each buffer begins or ends at a page that can't be touched; of those that end there, some are no
  *        better aligned than their elements. Inputs are read-only. Each call is made twice, on other
  *        addresses and other former contents; the second time, the buffers that a refusal leaves are
- *        read-only too. Both answers and what was written must be equal, and all else as before.
+ *        read-only too. Both answers and what was written must be equal, and all else as before. With a
+ *        scratch they must also be those of rollback_assemble; what its 64 masks hold afterwards is free.
  * heap   Buffers are of malloc and of exact length, and lent ones hold nothing yet: for valgrind.
  *
  * CASES holds the books and runs that all inputs start from. The last line gives the numbers of calls and of
@@ -20,10 +21,10 @@
 #include <sys/wait.h>
 #include <unistd.h>
 
-enum { PAGE = 4096, BOOK_ROOM = 10 * PAGE, CALLS = 9, CODES = 14 };
+enum { PAGE = 4096, BOOK_ROOM = 10 * PAGE, CALLS = 10, CODES = 14 };
 
-/* What assembling is lent for the legs, and whether a page. */
-enum { AS_BYTES, AS_STRUCTS, ON_PAPER, FORMS };
+/* What assembling is lent for the legs, whether a page, and whether a scratch in place of the book's buffers. */
+enum { AS_BYTES, AS_STRUCTS, ON_PAPER, WITH_SCRATCH, FORMS };
 
 static int heap;
 static uint64_t state;
@@ -62,7 +63,7 @@ typedef struct {
     uint8_t fill;
 } area;
 
-static area book, run, table, slots, weights, plan, legs, structs, paper;
+static area book, run, table, slots, weights, plan, legs, structs, paper, scratch;
 static area write_table, write_slots, write_weights, out;
 
 static void map(area *a, size_t room) {
@@ -161,7 +162,7 @@ static void wrote(const area *a, size_t used, copy *c, int second) {
 
 /* The lengths of the lent buffers, in elements. */
 typedef struct {
-    size_t table, slots, weights, plan, legs, structs, paper, write_table, write_slots, write_weights, out;
+    size_t table, slots, weights, plan, legs, structs, paper, scratch, write_table, write_slots, write_weights, out;
 } lengths;
 
 static size_t length(size_t stated, int is_short) {
@@ -171,7 +172,7 @@ static size_t length(size_t stated, int is_short) {
 }
 
 static lengths some_lengths(void) {
-    size_t is_short = below(7) == 0 ? 1 + below(6) : 0, writing = below(8) == 0 ? 1 + below(4) : 0;
+    size_t is_short = below(7) == 0 ? 1 + below(7) : 0, writing = below(8) == 0 ? 1 + below(4) : 0;
     lengths l;
     l.table = length(ROLLBACK_TABLE_LEN, is_short == 1);
     l.slots = length(ROLLBACK_SLOTS_LEN, is_short == 2);
@@ -180,6 +181,7 @@ static lengths some_lengths(void) {
     l.structs = length(ROLLBACK_LEG_STRUCTS_LEN, is_short == 4);
     l.paper = length(ROLLBACK_PAGE_LEN, is_short == 5);
     l.weights = length(ROLLBACK_WEIGHTS_LEN, is_short == 6);
+    l.scratch = length(ROLLBACK_SCRATCH_LEN, is_short == 7);
     l.write_table = length(ROLLBACK_TABLE_LEN, writing == 1);
     l.write_slots = length(ROLLBACK_SLOTS_LEN, writing == 2);
     l.out = length(ROLLBACK_BOOK_LEN, writing == 3);
@@ -308,15 +310,47 @@ static uint64_t plan_sum(uint64_t commands) {
     return sum;
 }
 
+static int other_answer(const rollback_assembly *r, const rollback_assembly *expected) {
+    return r->code != expected->code || r->place != expected->place || r->commands != expected->commands ||
+           r->legs != expected->legs || r->sum != expected->sum ||
+           memcmp(r->fewest, expected->fewest, sizeof r->fewest) != 0;
+}
+
+/*
+ * What was answered and written with a scratch, held to rollback_assemble with other buffers of the stated
+ * lengths, or with a short one where a buffer was short.
+ */
+static void as_the_first_form(const rollback_assembly *r, lengths l) {
+    static uint64_t entries[ROLLBACK_TABLE_LEN];
+    static uint16_t weight_of[ROLLBACK_WEIGHTS_LEN];
+    static uint8_t items[ROLLBACK_SLOTS_LEN], commands[ROLLBACK_PLAN_LEN], leg_bytes[ROLLBACK_LEGS_LEN];
+    int is_short = l.scratch < ROLLBACK_SCRATCH_LEN || l.plan < ROLLBACK_PLAN_LEN || l.legs < ROLLBACK_LEGS_LEN;
+    rollback_assembly expected =
+        rollback_assemble(pointer(&book), book.bytes, pointer(&run), run.bytes, entries, ROLLBACK_TABLE_LEN,
+                          items, ROLLBACK_SLOTS_LEN, weight_of, ROLLBACK_WEIGHTS_LEN,
+                          commands, is_short ? 0 : ROLLBACK_PLAN_LEN, leg_bytes, ROLLBACK_LEGS_LEN);
+    if (other_answer(r, &expected))
+        fail("gave another answer than rollback_assemble");
+    if (r->code == 0 && (memcmp(plan.at, commands, r->commands) != 0 || memcmp(legs.at, leg_bytes, 3 * r->legs) != 0))
+        fail("gave another plan or other legs than rollback_assemble");
+}
+
 /* Assembling in one of its forms. Without a page the length is 0. */
 static rollback_paged assembling(int form, lengths l, int at_end, const rollback_paged *first) {
-    static const char *const names[FORMS] = {"rollback_assemble", "rollback_assemble_legs", "rollback_page"};
+    static const char *const names[FORMS] = {"rollback_assemble", "rollback_assemble_legs", "rollback_page",
+                                             "rollback_assemble_small"};
     static copy tables, all_slots, all_weights, commands, all_legs, lines;
     area *lent_legs = form == AS_STRUCTS ? &structs : &legs;
     rollback_paged p;
     const rollback_assembly *r = &p.assembly, *before = first == NULL ? NULL : &first->assembly;
     int second = first != NULL, refused = second && before->code != 0;
-    lend_for_book(l, at_end, refused && !leaves_the_book(before->code));
+    if (form == WITH_SCRATCH) {
+        lend(&scratch, l.scratch * sizeof(uint64_t), at_end, (uint8_t)word());
+        if (refused && before->code == ROLLBACK_E_SHORT_BUFFER)
+            allow(&scratch, PROT_READ);
+    } else {
+        lend_for_book(l, at_end, refused && !leaves_the_book(before->code));
+    }
     lend(&plan, l.plan, at_end, (uint8_t)word());
     lend(lent_legs, form == AS_STRUCTS ? l.structs * sizeof(rollback_leg) : l.legs, at_end, (uint8_t)word());
     lend(&paper, l.paper, at_end, (uint8_t)word());
@@ -335,25 +369,31 @@ static rollback_paged assembling(int form, lengths l, int at_end, const rollback
         p.assembly = rollback_assemble(pointer(&book), book.bytes, pointer(&run), run.bytes, pointer(&table), l.table,
                                        pointer(&slots), l.slots, pointer(&weights), l.weights, pointer(&plan), l.plan,
                                        pointer(&legs), l.legs);
+    else if (form == WITH_SCRATCH)
+        p.assembly = rollback_assemble_small(pointer(&book), book.bytes, pointer(&run), run.bytes, pointer(&scratch),
+                                             l.scratch, pointer(&plan), l.plan, pointer(&legs), l.legs);
     else
         p = rollback_page(pointer(&book), book.bytes, pointer(&run), run.bytes, pointer(&table), l.table,
                           pointer(&slots), l.slots, pointer(&weights), l.weights, pointer(&plan), l.plan,
                           pointer(&legs), l.legs, pointer(&paper), l.paper);
     count(3 + (size_t)form, r->code, refused);
     look(r->fewest, sizeof r->fewest);
-    if (second && (r->code != before->code || r->place != before->place || r->commands != before->commands ||
-                   r->legs != before->legs || r->sum != before->sum ||
-                   memcmp(r->fewest, before->fewest, sizeof r->fewest) != 0 || p.length != first->length))
+    if (second && (other_answer(r, before) || p.length != first->length))
         fail("gave another answer the second time");
     if (r->code != 0 && (r->commands != 0 || r->legs != 0 || r->sum != 0))
         fail("refused with counts or a sum that are not 0");
-    if (r->code == 0 && r->sum != plan_sum(r->commands))
+    if (form == WITH_SCRATCH)
+        as_the_first_form(r, l);
+    else if (r->code == 0 && r->sum != plan_sum(r->commands))
         fail("gave a sum that is not that of its commands' weights");
     if (r->code == 0 && (forecast.code != 0 || r->commands > forecast.plan_bytes || r->legs > forecast.legs))
         fail("gave a plan that is longer than the forecast");
     if (p.length != (form == ON_PAPER ? r->legs * ROLLBACK_PAGE_LINE_LEN : 0))
         fail("gave a length that is not that of its legs' lines");
-    wrote_book(r->code, &tables, &all_slots, &all_weights, second);
+    if (form == WITH_SCRATCH)
+        kept(&scratch, r->code == ROLLBACK_E_SHORT_BUFFER ? 0 : ROLLBACK_SCRATCH_LEN * sizeof(uint64_t));
+    else
+        wrote_book(r->code, &tables, &all_slots, &all_weights, second);
     wrote(&plan, r->commands, &commands, second);
     wrote(lent_legs, r->legs * 3, &all_legs, second);
     wrote(&paper, p.length, &lines, second);
@@ -371,7 +411,7 @@ static rollback_writing writing(uint64_t n, uint64_t m, uint64_t items, lengths 
     now = "rollback_write";
     r = rollback_write(n, m, items, pointer(&write_table), l.write_table, pointer(&write_slots), l.write_slots,
                        pointer(&write_weights), l.write_weights, pointer(&out), l.out);
-    count(6, r.code, refused);
+    count(7, r.code, refused);
     if (second && (r.code != first->code || r.place != first->place || r.length != first->length))
         fail("gave another answer the second time");
     if (r.code != 0 && r.length != 0)
@@ -483,8 +523,8 @@ static void all_calls(const uint8_t *book_bytes, size_t book_length, const uint8
     w = writing(n, m, all, l, at_end, NULL);
     writing(n, m, all, l, !at_end, &w);
 
-    looking_up(7, "rollback_ridge", rollback_ridge, 64, 16, 1);
-    looking_up(8, "rollback_portable", rollback_portable, 32, 12, 0);
+    looking_up(8, "rollback_ridge", rollback_ridge, 64, 16, 1);
+    looking_up(9, "rollback_portable", rollback_portable, 32, 12, 0);
 }
 
 /* That the pages do what they are for: each of these must end by a fault. */
@@ -511,8 +551,9 @@ static void try_pages(void) {
 
 int main(int argc, char **argv) {
     static const char *const names[CALLS] = {"read", "check", "forecast", "assemble", "assemble_legs",
-                                             "page", "write", "ridge", "portable"};
-    static const unsigned has[CALLS] = {0x20FF, 0x31FF, 0x22FD, 0x3FFF, 0x3FFF, 0x3FFF, 0x00A3, 0x0021, 0x0021};
+                                             "page", "assemble_small", "write", "ridge", "portable"};
+    static const unsigned has[CALLS] = {0x20FF, 0x31FF, 0x22FD, 0x3FFF, 0x3FFF,
+                                        0x3FFF, 0x3FFF, 0x00A3, 0x0021, 0x0021};
     static uint8_t book_bytes[BOOK_ROOM], run_bytes[BOOK_ROOM];
     file cases;
     pair *pairs;
@@ -542,6 +583,7 @@ int main(int argc, char **argv) {
     map(&legs, PAGE);
     map(&structs, PAGE);
     map(&paper, PAGE);
+    map(&scratch, PAGE);
     map(&write_table, 5 * PAGE);
     map(&write_slots, PAGE);
     map(&write_weights, PAGE);

@@ -11,6 +11,7 @@ typedef char legs_of_3_bytes[ROLLBACK_LEGS_LEN == 3 * ROLLBACK_LEG_STRUCTS_LEN ?
 typedef char leg_of_3_bytes[sizeof(rollback_leg) == 3 ? 1 : -1];
 typedef char table_of_largest_device[ROLLBACK_TABLE_LEN == 64 * 32 ? 1 : -1];
 typedef char weights_of_32_commands[ROLLBACK_WEIGHTS_LEN == 32 ? 1 : -1];
+typedef char scratch_of_64_states[ROLLBACK_SCRATCH_LEN == 64 ? 1 : -1];
 typedef char plan_of_32_items[ROLLBACK_PLAN_LEN == 32 * 8 ? 1 : -1];
 typedef char page_of_32_lines[ROLLBACK_PAGE_LEN == 32 * ROLLBACK_PAGE_LINE_LEN ? 1 : -1];
 typedef char largest_book[ROLLBACK_BOOK_LEN == 6 + 4 + 2 * 32 + 2048 * 14 + 64 * 38 ? 1 : -1];
@@ -57,7 +58,7 @@ static void expect_record(const uint8_t *book, size_t length, uint64_t place, co
 }
 
 int main(void) {
-    static uint64_t table[ROLLBACK_TABLE_LEN];
+    static uint64_t table[ROLLBACK_TABLE_LEN], scratch[ROLLBACK_SCRATCH_LEN];
     static uint16_t weights[ROLLBACK_WEIGHTS_LEN];
     static uint8_t slots[ROLLBACK_SLOTS_LEN], plan[ROLLBACK_PLAN_LEN], legs[ROLLBACK_LEGS_LEN];
     static uint8_t book[ROLLBACK_BOOK_LEN], page[ROLLBACK_PAGE_LEN];
@@ -69,11 +70,12 @@ int main(void) {
     /* That device without the weight, and an item of one forward command and two reverse ones. */
     static const uint8_t with_item[] = {2, 0, 1, 0, 1, 1, 10, 0, 2, 0, 0, 0, 1, 0, 0, 0, 0, 0, 0, 0, 21, 0, 3,
                                         0, 1, 2, 0, 0, 0, 1, 0, 0, 0, 0, 0, 0, 0, 1, 0, 0, 0, 0, 0, 0, 0};
+    static const uint8_t sent[] = {18, 0, 4, 0, 1, 0, 1, 0, 0, 0, 0, 0, 0, 0, 1, 0, 0, 0, 0, 0, 0, 0};
     char version[32];
     rollback_reading read;
     rollback_checking checked;
     rollback_forecasted longest, too_long;
-    rollback_assembly bytes, in_structs;
+    rollback_assembly bytes, in_structs, by_scratch, too_short;
     rollback_paged paged;
     rollback_writing written;
 
@@ -113,6 +115,26 @@ int main(void) {
         too_long.plan_bytes != 0 || too_long.legs != 0 || rollback_forecast(small, 26, 7).plan_bytes != 0 ||
         rollback_forecast(small, 28, 33).place != 26 || rollback_forecast(NULL, 0, 0).code != ROLLBACK_E_CUT_OFF) {
         printf("checking or a forecast gives a wrong answer\n");
+        wrong = 1;
+    }
+    /* The item's two commands undo the one that was sent; with a scratch that is too short nothing happens. */
+    scratch[0] = 7;
+    plan[0] = 9;
+    too_short = rollback_assemble_small(with_item, sizeof with_item, sent, sizeof sent, scratch,
+                                        ROLLBACK_SCRATCH_LEN - 1, plan, ROLLBACK_PLAN_LEN, legs, ROLLBACK_LEGS_LEN);
+    if (too_short.code != ROLLBACK_E_SHORT_BUFFER || too_short.place != 0 || too_short.commands != 0 ||
+        too_short.legs != 0 || too_short.sum != 0 || too_short.fewest[0] != ROLLBACK_NONE || scratch[0] != 7 ||
+        plan[0] != 9) {
+        printf("a short scratch gives a wrong answer\n");
+        wrong = 1;
+    }
+    by_scratch = rollback_assemble_small(with_item, sizeof with_item, sent, sizeof sent, scratch,
+                                         ROLLBACK_SCRATCH_LEN, plan, ROLLBACK_PLAN_LEN, legs, ROLLBACK_LEGS_LEN);
+    if (by_scratch.code != ROLLBACK_E_DONE || by_scratch.place != 0 || by_scratch.commands != 2 ||
+        by_scratch.legs != 1 || by_scratch.sum != 2 || by_scratch.fewest[0] != 0 || by_scratch.fewest[1] != 2 ||
+        by_scratch.fewest[2] != ROLLBACK_NONE || plan[0] != 0 || plan[1] != 0 || legs[0] != 0 || legs[1] != 1 ||
+        legs[2] != 0) {
+        printf("assembling with a scratch gives a wrong answer\n");
         wrong = 1;
     }
 

@@ -5,6 +5,7 @@ set -eu
 archive=${1:-target/staticlib/libplanner.a}
 expected='rollback_assemble
 rollback_assemble_legs
+rollback_assemble_small
 rollback_check
 rollback_forecast
 rollback_page
@@ -18,6 +19,6 @@ if [ "$exported" != "$expected" ]; then
     printf 'exported:\n%s\nexpected:\n%s\n' "$exported" "$expected"
     exit 1
 fi
-printf 'exports exactly these nine:\n%s\n' "$exported"
+printf 'exports exactly these ten:\n%s\n' "$exported"
 printf 'needs:\n'
 nm -P -g --undefined-only "$archive" | awk 'NF > 1 { print $1 }' | LC_ALL=C sort -u

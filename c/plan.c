@@ -1,5 +1,6 @@
 /*
- * Prints the plan that undoes a run, or with --page its page and nothing else: plan [--page] BOOK RUN
+ * Prints the plan that undoes a run, with --page its page and nothing else, with --small the plan as
+ * assembled with little memory: plan [--page | --small] BOOK RUN
  * Status 0 if there is one, 1 if the library refuses, 2 on bad usage or a file that can't be read or
  * written. rust/examples/plan.rs does the same in Rust.
  */
@@ -39,14 +40,21 @@ static void print_refusal(char **names, file book, const rollback_assembly *r) {
     fprintf(stderr, "\n");
 }
 
+/* The number of reverse commands of an item of an accepted book: the second byte of its record's body. */
+static uint8_t reverse_count(file book, unsigned item) {
+    size_t at = 0;
+    while (at < book.length && (book.bytes[at + 2] != 3 || item-- > 0))
+        at += 4u + book.bytes[at] + 256u * book.bytes[at + 1];
+    return at < book.length ? book.bytes[at + 5] : 0;
+}
+
 /* What to send, then a line for each leg. */
-static void print_plan(const rollback_assembly *r, const uint8_t *slots, const uint8_t *plan,
-                       const rollback_leg *legs) {
+static void print_plan(const rollback_assembly *r, file book, const uint8_t *plan, const rollback_leg *legs) {
     uint64_t i, sent = 0;
     printf("send");
     print_row(plan, r->commands);
     for (i = 0; i < r->legs; i++) {
-        uint8_t count = slots[ROLLBACK_SLOT_LEN * legs[i].item + 1];
+        uint8_t count = reverse_count(book, legs[i].item);
         printf("item %u from point %u to %u:", legs[i].item, legs[i].upper, legs[i].lower);
         print_row(plan + sent, count);
         sent += count;
@@ -57,12 +65,12 @@ int main(int argc, char **argv) {
     static uint64_t table[ROLLBACK_TABLE_LEN];
     static uint16_t weights[ROLLBACK_WEIGHTS_LEN];
     static uint8_t slots[ROLLBACK_SLOTS_LEN], plan[ROLLBACK_PLAN_LEN];
-    int on_paper = argc > 1 && strcmp(argv[1], "--page") == 0;
-    char **names = argv + 1 + on_paper;
+    int on_paper = argc > 1 && strcmp(argv[1], "--page") == 0, small = argc > 1 && strcmp(argv[1], "--small") == 0;
+    char **names = argv + 1 + (on_paper || small);
     file book, run;
     rollback_assembly r;
-    if (argc != 3 + on_paper) {
-        fprintf(stderr, "usage: plan [--page] BOOK RUN\n");
+    if (argc != 3 + (on_paper || small)) {
+        fprintf(stderr, "usage: plan [--page | --small] BOOK RUN\n");
         return 2;
     }
     book = load(names[0]);
@@ -77,11 +85,19 @@ int main(int argc, char **argv) {
         fwrite(page, 1, p.length, stdout);
     } else {
         static rollback_leg legs[ROLLBACK_LEG_STRUCTS_LEN];
-        r = rollback_assemble_legs(book.bytes, book.length, run.bytes, run.length, table, ROLLBACK_TABLE_LEN,
-                                   slots, ROLLBACK_SLOTS_LEN, weights, ROLLBACK_WEIGHTS_LEN,
-                                   plan, ROLLBACK_PLAN_LEN, legs, ROLLBACK_LEG_STRUCTS_LEN);
+        if (small) {
+            static uint64_t scratch[ROLLBACK_SCRATCH_LEN];
+            static uint8_t leg_bytes[ROLLBACK_LEGS_LEN];
+            r = rollback_assemble_small(book.bytes, book.length, run.bytes, run.length, scratch, ROLLBACK_SCRATCH_LEN,
+                                        plan, ROLLBACK_PLAN_LEN, leg_bytes, ROLLBACK_LEGS_LEN);
+            memcpy(legs, leg_bytes, sizeof legs);
+        } else {
+            r = rollback_assemble_legs(book.bytes, book.length, run.bytes, run.length, table, ROLLBACK_TABLE_LEN,
+                                       slots, ROLLBACK_SLOTS_LEN, weights, ROLLBACK_WEIGHTS_LEN,
+                                       plan, ROLLBACK_PLAN_LEN, legs, ROLLBACK_LEG_STRUCTS_LEN);
+        }
         if (r.code == ROLLBACK_E_DONE)
-            print_plan(&r, slots, plan, legs);
+            print_plan(&r, book, plan, legs);
     }
     if (r.code != ROLLBACK_E_DONE)
         print_refusal(names, book, &r);

@@ -14,7 +14,7 @@
 
 enum { STACK = 1 << 20, GAP = 1 << 16, PAINT = 0xA5 };
 
-static uint64_t table[ROLLBACK_TABLE_LEN];
+static uint64_t table[ROLLBACK_TABLE_LEN], scratch[ROLLBACK_SCRATCH_LEN];
 static uint16_t weights[ROLLBACK_WEIGHTS_LEN];
 static uint8_t slots[ROLLBACK_SLOTS_LEN], plan[ROLLBACK_PLAN_LEN], legs[ROLLBACK_LEGS_LEN], page[ROLLBACK_PAGE_LEN];
 static uint8_t out[ROLLBACK_BOOK_LEN];
@@ -56,6 +56,13 @@ static void assemble_legs(void) {
         rollback_assemble_legs(book.bytes, book.length, run.bytes, run.length, table, ROLLBACK_TABLE_LEN,
                                slots, ROLLBACK_SLOTS_LEN, weights, ROLLBACK_WEIGHTS_LEN, plan, ROLLBACK_PLAN_LEN,
                                structs, ROLLBACK_LEG_STRUCTS_LEN);
+    code = r.code;
+}
+
+static void assemble_small(void) {
+    rollback_assembly r =
+        rollback_assemble_small(book.bytes, book.length, run.bytes, run.length, scratch, ROLLBACK_SCRATCH_LEN,
+                                plan, ROLLBACK_PLAN_LEN, legs, ROLLBACK_LEGS_LEN);
     code = r.code;
 }
 
@@ -123,6 +130,7 @@ static const struct {
     {"rollback_forecast", forecast, ROLLBACK_FORECAST_STACK},
     {"rollback_assemble", assemble, ROLLBACK_ASSEMBLE_STACK},
     {"rollback_assemble_legs", assemble_legs, ROLLBACK_ASSEMBLE_LEGS_STACK},
+    {"rollback_assemble_small", assemble_small, ROLLBACK_ASSEMBLE_SMALL_STACK},
     {"rollback_page", lay_out, ROLLBACK_PAGE_STACK},
     {"rollback_write", write_book, ROLLBACK_WRITE_STACK},
     {"rollback_ridge", ridge, ROLLBACK_RIDGE_STACK},

@@ -9,7 +9,7 @@
  *
  * - every length is true: so many elements are there to be read, and to be written where not const;
  * - a buffer that a call writes overlaps no other of that call, and nobody else uses it meanwhile;
- * - table is aligned as uint64_t is, and weights as uint16_t;
+ * - table and scratch are aligned as uint64_t is, and weights as uint16_t;
  * - there is as much stack as said below.
  *
  * Nor does a proof cover that this header fits the archive, and that the compiler's back end, the linker,
@@ -30,15 +30,16 @@ extern "C" {
 #endif
 
 /* Of this header; the Rust crate has the same. */
-#define ROLLBACK_VERSION "0.7.0"
+#define ROLLBACK_VERSION "0.8.0"
 #define ROLLBACK_VERSION_MAJOR 0
-#define ROLLBACK_VERSION_MINOR 7
+#define ROLLBACK_VERSION_MINOR 8
 #define ROLLBACK_VERSION_PATCH 0
 
 /* The least lengths of lent buffers, in elements. A shorter one is refused with code 1. */
 #define ROLLBACK_TABLE_LEN 2048     /* uint64_t: outcomes of state s, command c at s * m + c */
 #define ROLLBACK_SLOTS_LEN 2176     /* bytes: 64 slots of 34, see below */
 #define ROLLBACK_WEIGHTS_LEN 32     /* uint16_t: the weight of command c at c */
+#define ROLLBACK_SCRATCH_LEN 64     /* uint64_t: for the call's own use; these may end with anything in them */
 #define ROLLBACK_PLAN_LEN 256       /* bytes: a command each */
 #define ROLLBACK_LEGS_LEN 96        /* bytes: 32 legs of 3, item, upper point, lower point */
 #define ROLLBACK_LEG_STRUCTS_LEN 32 /* rollback_leg */
@@ -65,10 +66,11 @@ extern "C" {
  * rounded up; no proof has them. c/check.sh measures again and fails above these numbers.
  */
 #define ROLLBACK_READ_STACK 1024
-#define ROLLBACK_CHECK_STACK 2048
+#define ROLLBACK_CHECK_STACK 2560
 #define ROLLBACK_FORECAST_STACK 512
 #define ROLLBACK_ASSEMBLE_STACK 4096
 #define ROLLBACK_ASSEMBLE_LEGS_STACK 4096
+#define ROLLBACK_ASSEMBLE_SMALL_STACK 3072
 #define ROLLBACK_PAGE_STACK 4096
 #define ROLLBACK_WRITE_STACK 512
 #define ROLLBACK_RIDGE_STACK 512
@@ -238,6 +240,23 @@ rollback_assembly rollback_assemble_legs(
     uint16_t *weights, size_t weights_len,
     uint8_t *plan, size_t plan_len,
     rollback_leg *legs, size_t legs_len);
+
+/*
+ * Assembles with a scratch in place of table, slots and weights, where there is no room for them. It reads the
+ * book again wherever it needs it, and so may take longer. For every book and run, result, plan and legs are
+ * those that rollback_assemble gives with long enough buffers, plan and legs lent alike.
+ *
+ * Takes book and run; lends scratch, plan, and legs as bytes. Codes: 0 to 13.
+ * 0        plan and legs as after rollback_assemble; anything may stand in the first 64 masks of scratch.
+ * 1        scratch, plan or legs is shorter than stated: all untouched.
+ * 2 to 13  plan and legs untouched; anything may stand in the first 64 masks of scratch.
+ */
+rollback_assembly rollback_assemble_small(
+    const uint8_t *book, size_t book_len,
+    const uint8_t *run, size_t run_len,
+    uint64_t *scratch, size_t scratch_len,
+    uint8_t *plan, size_t plan_len,
+    uint8_t *legs, size_t legs_len);
 
 /*
  * Assembles the plan and lays it out on a page, a line for each leg. The commands, taken down the page, are

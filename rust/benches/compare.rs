@@ -15,7 +15,7 @@ use rollback_cases::{
 
 /// A batch of calls takes at least this long.
 const BATCH: Duration = Duration::from_millis(2);
-/// Batches of each of the two, in turn.
+/// Batches of each contender, in turn.
 const SAMPLES: usize = 51;
 
 /// What both are lent.
@@ -28,6 +28,7 @@ struct Lent {
     plan: Vec<u8>,
     legs: Vec<u8>,
     page: Vec<u8>,
+    scratch: Vec<u64>,
     structs: Vec<calls::Leg>,
     plain_structs: Vec<rollback_plain::Leg>,
     out: Vec<u8>,
@@ -51,6 +52,7 @@ impl Lent {
             plan: vec![0; calls::PLAN_LEN],
             legs: vec![0; calls::LEGS_LEN],
             page: vec![0; calls::PAGE_LEN],
+            scratch: vec![0; calls::SCRATCH_LEN],
             structs: vec![calls::Leg::default(); calls::LEG_STRUCTS_LEN],
             plain_structs: vec![rollback_plain::Leg::default(); calls::LEG_STRUCTS_LEN],
             out: vec![0; calls::BOOK_LEN],
@@ -73,6 +75,30 @@ const CHECK: Pair = Pair {
 };
 
 #[rustfmt::skip]
+const ASSEMBLE: Pair = Pair {
+    name: "assemble",
+    verified: |l| calls::assemble(
+        &l.book, &l.run, &mut l.table, &mut l.slots, &mut l.weights,
+        &mut l.plan, &mut l.legs,
+    ).code,
+    plain: |l| rollback_plain::assemble(
+        &l.book, &l.run, &mut l.table, &mut l.slots, &mut l.weights,
+        &mut l.plan, &mut l.legs,
+    ).code,
+};
+
+#[rustfmt::skip]
+const ASSEMBLE_SMALL: Pair = Pair {
+    name: "assemble_small",
+    verified: |l| calls::assemble_small(
+        &l.book, &l.run, &mut l.scratch, &mut l.plan, &mut l.legs,
+    ).code,
+    plain: |l| rollback_plain::assemble_small(
+        &l.book, &l.run, &mut l.scratch, &mut l.plan, &mut l.legs,
+    ).code,
+};
+
+#[rustfmt::skip]
 const PAIRS: [Pair; 7] = [
     Pair {
         name: "read",
@@ -85,17 +111,7 @@ const PAIRS: [Pair; 7] = [
         verified: |l| black_box(calls::forecast(&l.book, 32)).code,
         plain: |l| black_box(rollback_plain::forecast(&l.book, 32)).code,
     },
-    Pair {
-        name: "assemble",
-        verified: |l| calls::assemble(
-            &l.book, &l.run, &mut l.table, &mut l.slots, &mut l.weights,
-            &mut l.plan, &mut l.legs,
-        ).code,
-        plain: |l| rollback_plain::assemble(
-            &l.book, &l.run, &mut l.table, &mut l.slots, &mut l.weights,
-            &mut l.plan, &mut l.legs,
-        ).code,
-    },
+    ASSEMBLE,
     Pair {
         name: "assemble_legs",
         verified: |l| calls::assemble_legs(
@@ -196,25 +212,48 @@ impl Times {
     }
 }
 
-/// Both, batch by batch in turn, each first every other time; then a line of a table.
-fn compare(pair: &Pair, lent: &mut Lent, title: &str) {
-    let both = [pair.verified, pair.plain];
-    let sizes = both.map(|call| batch_size(call, lent));
-    let mut times = [Vec::new(), Vec::new()];
+/// All contenders, batch by batch in turn, each first as often as the others.
+fn in_turn<const N: usize>(calls: [fn(&mut Lent) -> u64; N], lent: &mut Lent) -> [Times; N] {
+    let sizes = calls.map(|call| batch_size(call, lent));
+    let mut times = [const { Vec::new() }; N];
     for sample in 0..SAMPLES {
-        for which in [sample % 2, 1 - sample % 2] {
-            let time = batch(both[which], lent, sizes[which]);
+        for turn in 0..N {
+            let which = (sample + turn) % N;
+            let time = batch(calls[which], lent, sizes[which]);
             times[which].push(time.as_nanos() as f64 / f64::from(sizes[which]));
         }
     }
-    let [verified, plain] = times.map(|mut times| {
+    times.map(|mut times| {
         times.sort_by(f64::total_cmp);
         Times(times)
-    });
+    })
+}
+
+/// Both; then a line of a table.
+fn compare(pair: &Pair, lent: &mut Lent, title: &str) {
+    let [verified, plain] = in_turn([pair.verified, pair.plain], lent);
     let ratio = verified.at(0.5) / plain.at(0.5);
     println!(
         "| {title} | {} | {} | {ratio:.2} |",
         verified.shown(),
+        plain.shown()
+    );
+}
+
+/// Assembling with a scratch beside assembling with a table, and beside the plain program's; then a line
+/// of a table.
+fn compare_small(lent: &mut Lent, title: &str) {
+    let calls = [
+        ASSEMBLE_SMALL.verified,
+        ASSEMBLE.verified,
+        ASSEMBLE_SMALL.plain,
+    ];
+    let [small, assemble, plain] = in_turn(calls, lent);
+    let [to_assemble, to_plain] = [&assemble, &plain].map(|other| small.at(0.5) / other.at(0.5));
+    println!(
+        "| {title} | {} | {} | {to_assemble:.1} | {} | {to_plain:.2} |",
+        small.shown(),
+        assemble.shown(),
         plain.shown()
     );
 }
@@ -289,6 +328,15 @@ fn main() {
     let mut lent = Lent::new(q_book(), q5_run());
     for pair in &LOOKUPS {
         compare(pair, &mut lent, pair.name);
+    }
+    println!("\n## Assembling with a scratch\n");
+    println!(
+        "| book | {} | {} | ratio | {} plain | ratio |",
+        ASSEMBLE_SMALL.name, ASSEMBLE.name, ASSEMBLE_SMALL.name
+    );
+    println!("|---|---|---|---|---|---|");
+    for (name, book, run) in &books {
+        compare_small(&mut Lent::new(book.clone(), run.clone()), name);
     }
     growth(
         "Checking by states (64 items, k = r = 8)",

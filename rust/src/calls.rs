@@ -14,6 +14,8 @@ pub const SLOTS_LEN: usize = 2_176;
 pub const SLOT_LEN: usize = 34;
 /// Elements of lent weights.
 pub const WEIGHTS_LEN: usize = 32;
+/// Elements of a lent scratch.
+pub const SCRATCH_LEN: usize = 64;
 /// Bytes of a lent plan.
 pub const PLAN_LEN: usize = 256;
 /// Bytes of lent legs.
@@ -192,6 +194,13 @@ mod sys {
             plan: *mut u8, plan_len: usize,
             legs: *mut Leg, legs_len: usize,
         ) -> Assembly;
+        pub fn rollback_assemble_small(
+            book: *const u8, book_len: usize,
+            run: *const u8, run_len: usize,
+            scratch: *mut u64, scratch_len: usize,
+            plan: *mut u8, plan_len: usize,
+            legs: *mut u8, legs_len: usize,
+        ) -> Assembly;
         pub fn rollback_page(
             book: *const u8, book_len: usize,
             run: *const u8, run_len: usize,
@@ -215,8 +224,8 @@ mod sys {
 }
 
 // SAFETY, of every call below: the header asks for true lengths, for written buffers that overlap
-// nothing and that nobody else uses meanwhile, and for aligned table and weights. Slices have all of
-// it by their types. Every bit pattern is a value of each result and of Leg.
+// nothing and that nobody else uses meanwhile, and for aligned table, scratch and weights. Slices
+// have all of it by their types. Every bit pattern is a value of each result and of Leg.
 
 /// Reads a book. Codes 0 to 7, 13.
 #[must_use]
@@ -297,6 +306,29 @@ pub fn assemble_legs(
             table.as_mut_ptr(), table.len(),
             slots.as_mut_ptr(), slots.len(),
             weights.as_mut_ptr(), weights.len(),
+            plan.as_mut_ptr(), plan.len(),
+            legs.as_mut_ptr(), legs.len(),
+        )
+    }
+}
+
+/// [`assemble`] with a scratch in place of table, slots and weights: result, plan and legs are the
+/// same, and it may take longer. Codes 0 to 13. Anything may stand in the scratch's 64 masks afterwards;
+/// on 1 it stays as it was.
+#[must_use]
+#[rustfmt::skip]
+pub fn assemble_small(
+    book: &[u8],
+    run: &[u8],
+    scratch: &mut [u64],
+    plan: &mut [u8],
+    legs: &mut [u8],
+) -> Assembly {
+    unsafe {
+        sys::rollback_assemble_small(
+            book.as_ptr(), book.len(),
+            run.as_ptr(), run.len(),
+            scratch.as_mut_ptr(), scratch.len(),
             plan.as_mut_ptr(), plan.len(),
             legs.as_mut_ptr(), legs.len(),
         )

@@ -12,7 +12,7 @@
 //! bytes of books and runs.
 //!
 //! Without the default feature `std` the crate needs `core` alone, and has [`calls`], [`forecast`],
-//! [`Fault`], [`WriteFault`], [`record_at`], [`ridge`] and [`portable`].
+//! [`plan_small`], [`Fault`], [`WriteFault`], [`record_at`], [`ridge`] and [`portable`].
 //!
 //! ```
 //! // A switch: command 0 turns it off, command 1 on. "Off" undoes "on" if it was off before.
@@ -47,9 +47,11 @@ mod book;
 pub mod calls;
 mod fault;
 mod forecast;
+mod lines;
 #[cfg(feature = "std")]
 mod plan;
 mod record;
+mod small;
 
 #[cfg(feature = "std")]
 pub use book::{write, Book, CheckedBook, Item};
@@ -59,6 +61,7 @@ pub use forecast::{forecast, Forecast};
 #[cfg(feature = "std")]
 pub use plan::{plan, run, Plan};
 pub use record::{record_at, Kind, Record};
+pub use small::{plan_small, SmallPlan};
 
 /// In the 33 numbers of [`Assembly::fewest`](calls::Assembly::fewest) and [`Fault::NoChain`]: no chain from that point.
 pub const NONE: u32 = 4_294_967_295;

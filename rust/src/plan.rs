@@ -4,6 +4,7 @@ use std::vec;
 use std::vec::Vec;
 
 use crate::calls::{self, Leg};
+use crate::lines::lines;
 use crate::{size, Fault};
 
 /// The plan that undoes a run. Printed, it is what to send, then a line for each leg.
@@ -77,33 +78,15 @@ impl Plan {
     }
 }
 
-/// Commands in a row, or `nothing`.
-fn row(f: &mut fmt::Formatter<'_>, commands: &[u8]) -> fmt::Result {
-    for command in commands {
-        write!(f, " {command}")?;
-    }
-    f.write_str(if commands.is_empty() {
-        " nothing\n"
-    } else {
-        "\n"
-    })
-}
-
 impl fmt::Display for Plan {
     fn fmt(&self, f: &mut fmt::Formatter<'_>) -> fmt::Result {
-        write!(f, "send")?;
-        row(f, &self.commands)?;
-        for (Leg { item, upper, lower }, commands) in self.steps() {
-            write!(f, "item {item} from point {upper} to {lower}:")?;
-            row(f, commands)?;
-        }
-        Ok(())
+        lines(f, &self.commands, self.steps())
     }
 }
 
 /// Checks a book and assembles from its items the plan that undoes a run: the chain whose commands'
 /// weights have the least sum; among equals, the one with the lower item number at the first
-/// difference.
+/// difference. Where there is no room for the table see [`plan_small`](crate::plan_small).
 ///
 /// # Errors
 /// Codes 2 to 8, 12 and 13: the book is refused. Codes 9 to 11: the bytes are no run of its device,

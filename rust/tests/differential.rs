@@ -19,6 +19,8 @@ struct After {
     plan: Vec<u8>,
     legs: Vec<u8>,
     page: Vec<u8>,
+    /// Empty where it is free.
+    scratch: Vec<u64>,
     out: Vec<u8>,
 }
 
@@ -55,6 +57,7 @@ impl After {
             part("plan", &self.plan, &other.plan),
             part("legs", &self.legs, &other.legs),
             part("page", &self.page, &other.page),
+            part("scratch", &self.scratch, &other.scratch),
             part("out", &self.out, &other.out),
         ];
         parts.into_iter().flatten().collect()
@@ -64,7 +67,7 @@ impl After {
 /// All calls of a program on one input.
 macro_rules! answers {
     ($name:ident, $program:ident) => {
-        fn $name(input: &Input) -> [After; 9] {
+        fn $name(input: &Input) -> [After; 10] {
             let (book, run) = (&input.book, &input.run);
             let mut read = After::lent("read", input);
             let a = &mut read;
@@ -106,6 +109,22 @@ macro_rules! answers {
                 .flat_map(|leg| [leg.item, leg.upper, leg.lower])
                 .collect();
 
+            let mut assemble_small = After {
+                call: "assemble_small",
+                scratch: input.scratch.clone(),
+                plan: input.plan.clone(),
+                legs: input.legs.clone(),
+                ..After::default()
+            };
+            let a = &mut assemble_small;
+            let r = $program::assemble_small(book, run, &mut a.scratch, &mut a.plan, &mut a.legs);
+            a.result = vec![r.code, r.place, r.commands, r.legs, r.sum];
+            a.result.extend(r.fewest.map(u64::from));
+            if r.code != 1 {
+                // Its 64 masks are free.
+                a.scratch.drain(..64);
+            }
+
             let mut page = After::lent("page", input);
             let a = &mut page;
             let (table, slots, weights) = (&mut a.table, &mut a.slots, &mut a.weights);
@@ -144,6 +163,7 @@ macro_rules! answers {
                 forecast,
                 assemble,
                 assemble_legs,
+                assemble_small,
                 page,
                 write,
                 ridge,
@@ -158,12 +178,13 @@ answers!(by_plain_program, plain);
 const ALL: [u64; 14] = [0, 1, 2, 3, 4, 5, 6, 7, 8, 9, 10, 11, 12, 13];
 
 /// The calls with the codes that each has.
-const CODES: [(&str, &[u64]); 9] = [
+const CODES: [(&str, &[u64]); 10] = [
     ("read", &[0, 1, 2, 3, 4, 5, 6, 7, 13]),
     ("check", &[0, 1, 2, 3, 4, 5, 6, 7, 8, 12, 13]),
     ("forecast", &[0, 2, 3, 4, 5, 6, 7, 9, 13]),
     ("assemble", &ALL),
     ("assemble_legs", &ALL),
+    ("assemble_small", &ALL),
     ("page", &ALL),
     ("write", &[0, 1, 5, 7]),
     ("ridge", &[0, 5]),
@@ -171,7 +192,7 @@ const CODES: [(&str, &[u64]); 9] = [
 ];
 
 /// The units that checking made and the plan, against the forecast for runs as long as the one at hand.
-fn keeps_to_the_forecast(input: &Input, answers: &[After; 9]) {
+fn keeps_to_the_forecast(input: &Input, answers: &[After; 10]) {
     let [read, check, _, assemble, ..] = answers;
     let (seed, i) = (input.seed, input.run.get(4).map_or(0, |&i| u64::from(i)));
     let f = verified::forecast(&input.book, i);
@@ -194,6 +215,71 @@ fn keeps_to_the_forecast(input: &Input, answers: &[After; 9]) {
     if let [0, _, commands, legs, ..] = assemble.result[..] {
         assert!(commands <= f.plan_bytes, "seed {seed}");
         assert!(legs <= f.legs, "seed {seed}");
+    }
+}
+
+/// Assembling with a scratch, against the first form: result, plan and legs with buffers of the stated
+/// lengths, plan and legs lent alike. With the lengths at hand it is that, or code 1 with all untouched.
+fn answers_as_the_first_form(input: &Input, with_lengths_at_hand: &After) {
+    let seed = input.seed;
+    let (book, run) = (&input.book, &input.run);
+    let mut plan = input.plan.clone();
+    plan.resize(verified::PLAN_LEN, 0x5A);
+    let mut legs = input.legs.clone();
+    legs.resize(verified::LEGS_LEN, 0x5A);
+    let mut scratch = input.scratch.clone();
+    scratch.resize(verified::SCRATCH_LEN, u64::MAX);
+
+    let (mut small_plan, mut small_legs) = (plan.clone(), legs.clone());
+    let small = verified::assemble_small(book, run, &mut scratch, &mut small_plan, &mut small_legs);
+    let mut table = vec![0; verified::TABLE_LEN];
+    let mut slots = vec![0; verified::SLOTS_LEN];
+    let mut weights = vec![0; verified::WEIGHTS_LEN];
+    let first = verified::assemble(
+        book,
+        run,
+        &mut table,
+        &mut slots,
+        &mut weights,
+        &mut plan,
+        &mut legs,
+    );
+    assert_eq!(small, first, "seed {seed}");
+    assert_eq!(small_plan, plan, "seed {seed}");
+    assert_eq!(small_legs, legs, "seed {seed}");
+
+    let a = with_lengths_at_hand;
+    let is_short = input.scratch.len() < verified::SCRATCH_LEN
+        || input.plan.len() < verified::PLAN_LEN
+        || input.legs.len() < verified::LEGS_LEN;
+    if is_short {
+        assert_eq!(a.result[..5], [1, 0, 0, 0, 0], "seed {seed}");
+        assert_eq!(
+            a.result[5..],
+            [u64::from(rollback::NONE); 33],
+            "seed {seed}"
+        );
+        assert_eq!(a.scratch, input.scratch, "seed {seed}");
+        assert_eq!(a.plan, input.plan, "seed {seed}");
+        assert_eq!(a.legs, input.legs, "seed {seed}");
+    } else {
+        let mut expected = vec![
+            first.code,
+            first.place,
+            first.commands,
+            first.legs,
+            first.sum,
+        ];
+        expected.extend(first.fewest.map(u64::from));
+        assert_eq!(a.result, expected, "seed {seed}");
+        let past = &input.scratch[verified::SCRATCH_LEN..];
+        assert_eq!(a.scratch, past, "seed {seed}");
+        let (given, rest) = a.plan.split_at(verified::PLAN_LEN);
+        assert_eq!(given, plan, "seed {seed}");
+        assert_eq!(rest, &input.plan[verified::PLAN_LEN..], "seed {seed}");
+        let (given, rest) = a.legs.split_at(verified::LEGS_LEN);
+        assert_eq!(given, legs, "seed {seed}");
+        assert_eq!(rest, &input.legs[verified::LEGS_LEN..], "seed {seed}");
     }
 }
 
@@ -221,6 +307,7 @@ fn the_library_answers_as_the_plain_program() {
             met[call][p.result[0] as usize] += 1;
         }
         keeps_to_the_forecast(&given, &library);
+        answers_as_the_first_form(&given, &library[5]);
         // What a call only reads stays too.
         assert!(
             given == before,

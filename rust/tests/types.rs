@@ -8,6 +8,7 @@ use rollback::calls::{
 use rollback::{record_at, Book, Fault, Forecast, Item, Kind, WriteFault, NONE};
 use rollback_cases::{
     assemble_cases, book_cases, forecast_cases, largest_book, page_cases, q5_run, q_book,
+    small_cases,
 };
 
 fn code_and_place(fault: &Fault) -> [u64; 2] {
@@ -72,6 +73,40 @@ fn pages() {
                 assert_eq!(commands.collect::<Vec<u8>>(), plan.commands());
             }
             Err(fault) => assert_eq!(code_and_place(&fault), case.head[..2], "case {number}"),
+        }
+    }
+}
+
+#[test]
+fn plans_with_a_scratch() {
+    let cases = small_cases();
+    let small = cases.iter().map(|case| &case.assemble);
+    // Here buffers are never short.
+    let small = small.filter(|case| case.code != 1);
+    let mut scratch = [7; calls::SCRATCH_LEN];
+    for (number, case) in small.chain(&assemble_cases()).enumerate() {
+        let (book, run) = (&case.book, &case.run);
+        let (mut plan, mut legs) = ([8; calls::PLAN_LEN], [9; calls::LEGS_LEN]);
+        let found = rollback::plan_small(book, run, &mut scratch, &mut plan, &mut legs);
+        match (found, rollback::plan(book, run)) {
+            (Ok(small), Ok(plan)) => {
+                assert_eq!(case.code, 0, "case {number}");
+                assert_eq!(small.commands(), case.plan, "case {number}");
+                let leg_list = small.legs().map(|leg| [leg.item, leg.upper, leg.lower]);
+                assert!(leg_list.eq(case.leg_list.iter().copied()), "case {number}");
+                assert_eq!(small.sum(), case.sum, "case {number}");
+                assert_eq!(small.fewest(), &case.fewest, "case {number}");
+                assert!(small.steps().eq(plan.steps()), "case {number}");
+                assert_eq!(small.to_string(), plan.to_string(), "case {number}");
+            }
+            (Err(fault), Err(same)) => {
+                assert_eq!(fault, same, "case {number}");
+                let head = [case.code, case.place];
+                assert_eq!(code_and_place(&fault), head, "case {number}");
+                assert_eq!(plan, [8; calls::PLAN_LEN], "case {number}");
+                assert_eq!(legs, [9; calls::LEGS_LEN], "case {number}");
+            }
+            (small, plan) => panic!("case {number}: {small:?}, {plan:?}"),
         }
     }
 }

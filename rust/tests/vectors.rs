@@ -1,7 +1,9 @@
 //! The cases that a second program has answered, against the library.
 
 use rollback::calls::{self, Leg, Lookup};
-use rollback_cases::{assemble_cases, book_cases, forecast_cases, masks, page_cases, write_cases};
+use rollback_cases::{
+    assemble_cases, book_cases, forecast_cases, masks, page_cases, small_cases, write_cases,
+};
 
 const FILL: u8 = 0xA5;
 
@@ -132,6 +134,60 @@ fn plans() {
         cases.len()
     );
     assert_eq!(cases.len(), 900);
+}
+
+#[test]
+fn plans_with_a_scratch() {
+    let cases = small_cases();
+    for (number, small) in cases.iter().enumerate() {
+        let case = &small.assemble;
+        let (book, run) = (&case.book, &case.run);
+        let mut scratch = small.scratch.clone();
+        let (mut plan, mut legs) = (small.plan.clone(), small.legs.clone());
+        let r = calls::assemble_small(book, run, &mut scratch, &mut plan, &mut legs);
+        let head = [case.code, case.place, case.commands, case.legs, case.sum];
+        assert_eq!(
+            [r.code, r.place, r.commands, r.legs, r.sum],
+            head,
+            "case {number}"
+        );
+        assert_eq!(r.fewest, case.fewest, "numbers of case {number}");
+        let mut plan_after = small.plan.clone();
+        plan_after[..case.plan.len()].copy_from_slice(&case.plan);
+        assert_eq!(plan, plan_after, "plan of case {number}");
+        let mut legs_after = small.legs.clone();
+        legs_after[..3 * case.leg_list.len()].copy_from_slice(case.leg_list.as_flattened());
+        assert_eq!(legs, legs_after, "legs of case {number}");
+        if r.code == 1 {
+            assert_eq!(scratch[..8], small.scratch_after, "case {number}");
+            assert_eq!(scratch, small.scratch, "scratch of case {number}");
+        } else {
+            assert!(small.scratch_after.is_empty(), "case {number}");
+            let past = &small.scratch[calls::SCRATCH_LEN..];
+            assert_eq!(&scratch[calls::SCRATCH_LEN..], past, "case {number}");
+        }
+
+        // The first form, unless the scratch is short.
+        let (mut plan_after, mut legs_after) = (small.plan.clone(), small.legs.clone());
+        if small.scratch.len() >= calls::SCRATCH_LEN {
+            let first = calls::assemble(
+                book,
+                run,
+                &mut [0; calls::TABLE_LEN],
+                &mut [0; calls::SLOTS_LEN],
+                &mut [0; calls::WEIGHTS_LEN],
+                &mut plan_after,
+                &mut legs_after,
+            );
+            assert_eq!(r, first, "case {number}");
+        }
+        assert!(
+            (plan, legs) == (plan_after, legs_after),
+            "buffers of case {number}"
+        );
+    }
+    println!("with a scratch: {} cases", cases.len());
+    assert_eq!(cases.len(), 700);
 }
 
 #[test]

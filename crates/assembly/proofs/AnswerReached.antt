@@ -42,16 +42,14 @@ pub record Stored (a : Answer) (room : Room ℕ) (r : Assembly) (room′ : Room 
 abbrev pub counted : ℕ → ℕ → ℕ → List ℕ → Assembly
 counted commands legs sum fewest = record { code = 0; place = 0; commands = commands; legs = legs; sum = sum; fewest = fewest }
 
--- a chain is found: it can be walked, its sum is below none, and what the walk leaves is the answer
+-- a chain is found: it can be walked, and what the walk leaves is the answer
 pub record ChainFound (F : Items) (fewest firsts : List ℕ) (room : Room ℕ) (a : Answer) (i : ℕ) : Type 0 where
   pub walkable : Walkable F firsts i
-  pub sum-low : getD fewest i 0 < none
   pub stored : {w : Counts} {room′ : Room ℕ} → Walked F firsts i (room .plan) (room .legs) w (room′ .plan) (room′ .legs)
       → Stored a room (counted (w .commands) (w .legs) (getD fewest i 0) fewest) room′
 
-module _ (dev : Device) (ws : List ℕ) (items : List Item) (run : List ℕ) (allowed : Allowed dev ws items (runOf run)) (F : Items)
-    (fields : ItemsOf items F) (W : List ℕ) (weigh : WeightsOf (dev .m) ws W) (beliefs : List ℕ) (believed : Believed dev (runOf run) beliefs)
-    (room : Room ℕ) where
+module _ (dev : Device) (ws : List ℕ) (items : List Item) (run : List ℕ) (allowed : Allowed dev ws items (runOf run)) (beliefs : List ℕ)
+    (believed : Believed dev (runOf run) beliefs) (room : Room ℕ) where
   abbrev r : Run
   r = runOf run
 
@@ -73,7 +71,8 @@ module _ (dev : Device) (ws : List ℕ) (items : List Item) (run : List ℕ) (al
         subst (λ (a : Answer). Stored a room w room) (sym answer-10) (record { result-is = e; room-is = refl })
 
   -- ---- codes 11 and 0
-  module _ (some : getD beliefs 0 0 ≡ 0 → ⊥) {fewest firsts : List ℕ} (fieldwise : Numbered (linksOf F W run beliefs (length items)) i fewest firsts) where
+  module _ (F : Items) (fields : ItemsOf items F) (W : List ℕ) (weigh : WeightsOf (dev .m) ws W) (some : getD beliefs 0 0 ≡ 0 → ⊥)
+      {fewest firsts : List ℕ} (fieldwise : Numbered (linksOf F W run beliefs (length items)) i fewest firsts) where
     possible : belief dev r 0 ≡ 0 → ⊥
     possible e = some (believed .each 0 (omega arith) ∙ e)
 
@@ -145,7 +144,9 @@ module _ (dev : Device) (ws : List ℕ) (items : List Item) (run : List ℕ) (al
           record {
             low = allowed .run .short;
             steps = walks .1;
-            short = omega (arith, ap (λ (l : List ℕ). length l) plan-is, plan-most dev ws items r allowed xs i (linked→chain dev ws items r allowed xs i (omega arith) (linked .0)), allowed .run .short);
+            short =
+                let chain = linked→chain dev ws items r allowed xs i (omega arith) (linked .0) in
+                omega (arith, ap (λ (l : List ℕ). length l) plan-is, plan-most dev ws items r allowed xs i chain, allowed .run .short);
           }
 
       chain-stored : {w : Counts} {room′ : Room ℕ} → Walked F firsts i (room .plan) (room .legs) w (room′ .plan) (room′ .legs)
@@ -165,4 +166,4 @@ module _ (dev : Device) (ws : List ℕ) (items : List Item) (run : List ℕ) (al
           })
 
       pub chain-found : ChainFound F fewest firsts room (answer dev ws items r) i
-      chain-found = record { walkable = walkable; sum-low = subst (λ (x : ℕ). x < none) (sym least-is) below; stored = chain-stored }
+      chain-found = record { walkable = walkable; stored = chain-stored }

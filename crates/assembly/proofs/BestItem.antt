@@ -6,19 +6,21 @@ use Prim.Native.Nat.{ℕ, _+_, _-_, _≤_, _<_}
 use native.Mathlib.Numerals.{add-one}
 use native.Mathlib.Omega.{arith}
 use lib.Dec.{leb, leb→le}
-use lib.ListN.{getD}
+use lib.ListN.{length, getD}
 use Rattle.base.specs.Tests.{pick, both}
 use Rattle.base.specs.Bounded.{least}
 use Rattle.base.proofs.Tests.{true-T, both-l}
 use Rattle.base.proofs.Bounded.{least-le}
+use Rattle.reversal.specs.Reversal.{Item}
 use Rattle.reversal.specs.Computed.Least.{Links, via}
-use Rattle.assembly.specs.Items.{Items, kOf}
 use Rattle.assembly.specs.Links.{fitsAt, Chosen}
 
 -- an item that fits has room
-pub fits-room : (F : Items) (s sets : List ℕ) (a j : ℕ) → fitsAt F s sets a j ≡ true → kOf F a ≤ j
+pub fits-room : (x : Item) (s sets : List ℕ) (j : ℕ) → fitsAt x s sets j ≡ true → length (x .forward) ≤ j
 unfolding fitsAt
-fits-room F s sets a j e = leb→le (kOf F a) j (both-l (leb (kOf F a) j) (both _ (both _ _)) (true-T (fitsAt F s sets a j) e))
+fits-room x s sets j e =
+    let k = length (x .forward) in
+    leb→le k j (both-l (leb k j) (both _ (both _ _)) (true-T (fitsAt x s sets j) e))
 
 module _ (R : Links) (ns : List ℕ) (j : ℕ) where
   via-fit : (a k r x : ℕ) → R .fit a j ≡ true → k ≡ R .k a → r ≡ R .price a → x ≡ getD ns (j - k) 0 → r + x ≡ via R ns j a

@@ -58,7 +58,7 @@ module _ (d : Device) (r : Run) (items : List Item) (F : Items) (fields : ItemsO
       part-at y l =
           getD-take (length (x .forward)) (drop low (r .commands)) y 0 l ∙ getD-drop low (r .commands) y 0 ∙ sym (commands (low + y) (omega arith))
 
-      same-is : sameAt F s a j (length (x .forward)) ≡ sameList part (x .forward)
+      same-is : sameAt x s j (length (x .forward)) ≡ sameList part (x .forward)
       unfolding sameAt
       same-is =
           test-same (all f (length (x .forward))) (sameList part (x .forward))
@@ -73,13 +73,13 @@ module _ (d : Device) (r : Run) (items : List Item) (F : Items) (fields : ItemsO
           f : ℕ → Bool
           f y = eqb (getD (x .forward) y 0) (commandOf s (low + y))
 
-    fits-same : fitsAt F s sets a j ≡ fits d r (item items a) j
+    fits-same : fitsAt x s sets j ≡ fits d r (item items a) j
     unfolding fitsAt fits
     fits-same = go (decLt j (length (x .forward))) ∙ ap (λ (v : Item). fits d r v j) (fields a known)
       where
         go : Dec (j < length (x .forward))
             → both (leb (length (x .forward)) j)
-            (both (sameAt F s a j (length (x .forward))) (both (inside (getD sets j 0) (x .phi)) (inside (getD sets low 0) (x .psi))))
+            (both (sameAt x s j (length (x .forward))) (both (inside (getD sets j 0) (x .phi)) (inside (getD sets low 0) (x .psi))))
             ≡ both (leb (length (x .forward)) j)
             (both (sameList part (x .forward)) (both (inside (belief d r j) (x .phi)) (inside (belief d r low) (x .psi))))
         go (yes h) = rw (lt-leb (length (x .forward)) j h) (both-false _ ∙ sym (both-false _))

@@ -1,6 +1,7 @@
 pub mod Passes
 pub mod FitTests
 pub mod ReverseSum
+pub mod ItemsRead
 pub mod BestItem
 pub mod Numbers
 pub mod ChainWritten
@@ -10,10 +11,12 @@ pub mod FollowedIsChosen
 pub mod AnswerReached
 pub mod Lengths
 pub mod WaysOfAssemble
+pub mod Lends
 pub mod Exactly
 pub mod LegsRead
 pub mod After
 pub mod Unique
 pub mod Demand
+pub mod Small
 pub mod DemandUnique
 pub mod Cases

@@ -10,17 +10,16 @@ use Rattle.base.specs.Sizes.{LongEnough}
 use Rattle.base.specs.Shorter.{anyShort}
 use Rattle.base.proofs.Picks as picks
 use Rattle.base.proofs.Lists.{each-at}
-use Rattle.reversal.specs.Device.{Device, tabled}
+use Rattle.reversal.specs.Device.{Device}
 use Rattle.reversal.specs.Reversal.{Item, AllowedItem}
 use Rattle.reversal.specs.Runs.{AllowedRun, last}
 use Rattle.reversal.specs.Chains.{absent, none}
 use Rattle.reversal.specs.Answers.{Allowed, Answer}
 use Rattle.book.specs.Book.{Book, deviceOf}
 use Rattle.book.specs.Lent.{Lent}
-use Rattle.book.specs.Slots.{itemAt}
-use Rattle.book.proofs.Slots.{slot-holds}
-use Rattle.book.proofs.Weights.{weight-holds}
-use Rattle.book.proofs.Device.{device-proper, tabled-device}
+use Rattle.book.proofs.Device.{device-proper}
+use Rattle.items.specs.Items.{Placed}
+use Rattle.items.proofs.Laws.{placed-items}
 use Rattle.checker.specs.declared.Checking.{Checking}
 use Rattle.checker.specs.Contract.{checkBy, CheckAs}
 use Rattle.checker.proofs.Onward.{BookChecked, book-checked, checked-by, unchecked-by}
@@ -30,12 +29,13 @@ use Rattle.runs.proofs.Formed.{run-value}
 use Rattle.assembly.specs.declared.Assembly.{Assembly}
 use Rattle.assembly.specs.declared.chain.Counts.{Counts}
 use Rattle.assembly.specs.Believed.{Believed}
-use Rattle.assembly.specs.Items.{ItemsOf, WeightsOf}
+use Rattle.assembly.specs.Items.{ItemsOf, recorded, WeightsOf}
 use Rattle.assembly.specs.Links.{linksOf, Moving, Numbered}
 use Rattle.assembly.specs.ChainFollowed.{Walked}
 use Rattle.assembly.specs.Lent.{inBytes, Room, AllLent, roomSizes, allSizes}
+use Rattle.assembly.specs.Small.{beside}
 use Rattle.assembly.specs.Assembles.{refusal, resultOf}
-use Rattle.assembly.specs.Contract.{answerOf, plannedBy, assembleBy, roomOf, AssembleAs}
+use Rattle.assembly.specs.Contract.{answerOf, plannedBy, assembleBy, roomOf, AssembleAs, Lending}
 use Rattle.assembly.proofs.Lengths.{some-short, room-long}
 use Rattle.assembly.proofs.AnswerReached as reached
 use Rattle.assembly.proofs.AnswerReached.{Stored, counted, ChainFound}
@@ -55,10 +55,7 @@ module _ {book run : List ℕ} {l : AllLent ℕ} (bytes : Bytes book) (run-bytes
 
 -- ---- after checking
 
--- the buffers at exit: `read` as checking leaves them, and plan and legs
-abbrev left : Lent → Room ℕ → AllLent ℕ
-left read room = record { read = read; room = room }
-
+-- at exit `read` is as checking leaves it
 pub record Entered (book run : List ℕ) (l : AllLent ℕ) (f : Checking) (read : Lent) : Type 0 where
   pub check : CheckAs book (l .read) f read
   pub run-bytes : Bytes run
@@ -70,7 +67,7 @@ module _ {book run : List ℕ} {l : AllLent ℕ} {f : Checking} {read : Lent} (h
 
   after-check : {r : Assembly} {room : Room ℕ} → r ≡ checkBy book (l .read) refusal (plannedBy run refusal resultOf)
       → room ≡ checkBy book (l .read) (λ code place. l .room) (plannedBy run (λ code place. l .room) (roomOf inBytes (l .room)))
-      → AssembleAs inBytes book run l r (left read room)
+      → AssembleAs inBytes book run l r (beside room read)
   unfolding assembleBy checkBy
   after-check result room-is =
       record {
@@ -81,7 +78,7 @@ module _ {book run : List ℕ} {l : AllLent ℕ} {f : Checking} {read : Lent} (h
         room-is = room-is ∙ sym (room-long inBytes l (h .long) book _ _);
       }
 
-  pub not-accepted : (f .code ≡ 0 → ⊥) → {r : Assembly} → r ≡ refusal (f .code) (f .place) → AssembleAs inBytes book run l r (left read (l .room))
+  pub not-accepted : (f .code ≡ 0 → ⊥) → {r : Assembly} → r ≡ refusal (f .code) (f .place) → AssembleAs inBytes book run l r (beside (l .room) read)
   not-accepted n e = after-check (e ∙ sym (unchecked-by c _ _ n)) (sym (unchecked-by c _ _ n))
 
   -- the book is accepted
@@ -107,44 +104,36 @@ module _ {book run : List ℕ} {l : AllLent ℕ} {f : Checking} {read : Lent} (h
         let d = g .accepted .allowed .device in
         (omega (arith, n-is, d .n-high), omega (arith, m-is, d .m-high), omega (arith, items-is, g .accepted .allowed .few))
 
-    fields : ItemsOf (b .items) (itemAt (read .slots))
-    fields = subst (λ (x : Lent). ItemsOf (b .items) (itemAt (x .slots))) (sym (g .buffers)) (slot-holds b (l .read .slots) (g .accepted .allowed) (g .long .1 .0))
+    -- the items are the book's
+    module _ {places : List ℕ} (placed : Placed book places) where
+      fields : ItemsOf (b .items) (recorded book places)
+      fields = placed-items placed b (g .accepted .allowed) (g .accepted .bytes)
 
-    weighed : WeightsOf (b .m) (b .weights) (read .weights)
-    weighed =
-        subst (λ (x : Lent). WeightsOf (b .m) (b .weights) (x .weights)) (sym (g .buffers))
-        (weight-holds b (l .read .weights) (g .accepted .allowed) (g .long .1 .1 .0))
-
-    pub movable : Moving (itemAt (read .slots)) (f .items)
-    movable a l =
-        let known = subst (λ (n : ℕ). a < n) items-is l in
-        omega (arith, ap (λ (x : Item). length (x .forward)) (fields a known), each-at (AllowedItem (deviceOf b)) (b .items) (g .accepted .allowed .each-item) a absent known .some)
-
-    device-is : tabled (f .n) (f .m) (read .table) ≡ deviceOf b
-    device-is =
-        ap (λ (x : Checking). tabled (x .n) (x .m) (read .table)) (g .result) ∙ ap (λ (x : Lent). tabled (b .n) (b .m) (x .table)) (g .buffers)
-        ∙ tabled-device b (l .read .table) (g .accepted .allowed) (g .long .0)
+      pub movable : Moving (recorded book places) (f .items)
+      movable a l =
+          let known = subst (λ (n : ℕ). a < n) items-is l in
+          omega (arith, ap (λ (x : Item). length (x .forward)) (fields a known), each-at (AllowedItem (deviceOf b)) (b .items) (g .accepted .allowed .each-item) a absent known .some)
 
     faulty-is : runFaulty (b .n) (b .m) run ≡ runFaulty (f .n) (f .m) run
     faulty-is = ap₂ (λ (n m : ℕ). runFaulty n m run) (sym n-is) (sym m-is)
 
-    pub run-refused : runFaulty (f .n) (f .m) run ≡ true → {r : Assembly} → r ≡ refusal 9 0 → AssembleAs inBytes book run l r (left read (l .room))
+    pub run-refused : runFaulty (f .n) (f .m) run ≡ true → {r : Assembly} → r ≡ refusal 9 0 → AssembleAs inBytes book run l r (beside (l .room) read)
     run-refused e p =
         let y = faulty-is ∙ e in
         after-check (picks.yes _ _ _ _ y p ∙ sym (checked-by c _ _ g)) (picks.yes _ _ _ _ y refl ∙ sym (checked-by c _ _ g))
 
 -- ---- the book is accepted and the run is fine
-pub record FineRun (book run : List ℕ) (l : AllLent ℕ) (f : Checking) (read : Lent) : Type 0 where
+pub record FineRun (book run : List ℕ) (d : Device) (W : List ℕ) (l : AllLent ℕ) (f : Checking) (read : Lent) : Type 0 where
   pub entered : Entered book run l f read
-  pub accepted : f .code ≡ 0
+  pub lends : Lending book d W f (l .room)
   pub fine : runFaulty (f .n) (f .m) run ≡ false
 
-module _ {book run : List ℕ} {l : AllLent ℕ} {f : Checking} {read : Lent} (w : FineRun book run l f read) where
+module _ {book run : List ℕ} {d : Device} {W : List ℕ} {l : AllLent ℕ} {f : Checking} {read : Lent} (w : FineRun book run d W l f read) where
   abbrev h : Entered book run l f read
   h = w .entered
 
   abbrev z : f .code ≡ 0
-  z = w .accepted
+  z = w .lends .accepted
 
   abbrev B : Book
   B = b h z
@@ -160,6 +149,9 @@ module _ {book run : List ℕ} {l : AllLent ℕ} {f : Checking} {read : Lent} (w
       let ok = g h z .accepted .allowed in
       record { device = device-proper B ok; weights = ok .weighed; each = ok .each-item; run = run-ok }
 
+  weighed : WeightsOf (B .m) (B .weights) W
+  weighed = w .lends .weighed B (g h z .accepted)
+
   pub low : lastOf run ≤ 32
   low = omega (arith, last-is run, run-ok .short)
 
@@ -170,56 +162,56 @@ module _ {book run : List ℕ} {l : AllLent ℕ} {f : Checking} {read : Lent} (w
         picks.no (done (answerOf B run)) (refuse 9 0) (done (answerOf B run)) (runFaulty (B .n) (B .m) run) fine refl
         ∙ sym (checked-by (c h) _ _ (g h z))
 
-    answered : AssembleAs inBytes book run l r (left read room)
+    answered : AssembleAs inBytes book run l r (beside room read)
     answered =
         after-check h (s .result-is ∙ planned refusal resultOf) (s .room-is ∙ planned (λ code place. l .room) (roomOf inBytes (l .room)))
 
-  module _ {beliefs : List ℕ} (believed : Believed (tabled (f .n) (f .m) (read .table)) (runOf run) beliefs) where
+  module _ {beliefs : List ℕ} (believed : Believed d (runOf run) beliefs) where
     held : Believed (deviceOf B) (runOf run) beliefs
-    held = subst (λ (v : Device). Believed v (runOf run) beliefs) (device-is h z) believed
+    held = subst (λ (v : Device). Believed v (runOf run) beliefs) (w .lends .device B (g h z .accepted)) believed
 
-    pub no-state : getD beliefs 0 0 ≡ 0 → {r : Assembly} → r ≡ refusal 10 0 → AssembleAs inBytes book run l r (left read (l .room))
+    pub no-state : getD beliefs 0 0 ≡ 0 → {r : Assembly} → r ≡ refusal 10 0 → AssembleAs inBytes book run l r (beside (l .room) read)
     no-state s p =
-        answered
-        (reached.no-state (deviceOf B) (B .weights) (B .items) run allowed (itemAt (read .slots)) (fields h z) (read .weights) (weighed h z) beliefs held
-        (l .room) s p)
+        answered (reached.no-state (deviceOf B) (B .weights) (B .items) run allowed beliefs held (l .room) s p)
 
 -- ---- some state is possible and the numbers are known
-pub record NumbersKnown (beliefs : List ℕ) (i : ℕ) (fewest firsts : List ℕ) (book run : List ℕ) (l : AllLent ℕ) (f : Checking) (read : Lent) : Type 0 where
-  pub fine-run : FineRun book run l f read
-  pub believed : Believed (tabled (f .n) (f .m) (read .table)) (runOf run) beliefs
+pub record NumbersKnown (beliefs : List ℕ) (i : ℕ) (places fewest firsts : List ℕ) (book run : List ℕ) (d : Device) (W : List ℕ) (l : AllLent ℕ)
+    (f : Checking) (read : Lent) : Type 0 where
+  pub fine-run : FineRun book run d W l f read
+  pub believed : Believed d (runOf run) beliefs
   pub some : getD beliefs 0 0 ≡ 0 → ⊥
   pub last-point : i ≡ lastOf run
-  pub num : Numbered (linksOf (itemAt (read .slots)) (read .weights) run beliefs (f .items)) i fewest firsts
+  pub placed : Placed book places
+  pub num : Numbered (linksOf (recorded book places) W run beliefs (f .items)) i fewest firsts
 
-module _ {beliefs : List ℕ} {i : ℕ} {fewest firsts book run : List ℕ} {l : AllLent ℕ} {f : Checking} {read : Lent}
-    (k : NumbersKnown beliefs i fewest firsts book run l f read) where
-  abbrev w : FineRun book run l f read
+module _ {beliefs : List ℕ} {i : ℕ} {places fewest firsts book run : List ℕ} {d : Device} {W : List ℕ} {l : AllLent ℕ} {f : Checking} {read : Lent}
+    (k : NumbersKnown beliefs i places fewest firsts book run d W l f read) where
+  abbrev w : FineRun book run d W l f read
   w = k .fine-run
 
   i-is : i ≡ last (runOf run)
   i-is = k .last-point ∙ last-is run
 
-  num′ : Numbered (linksOf (itemAt (read .slots)) (read .weights) run beliefs (length (B w .items))) (last (runOf run)) fewest firsts
-  num′ = subst₂ (λ (n j : ℕ). Numbered (linksOf (itemAt (read .slots)) (read .weights) run beliefs n) j fewest firsts) (items-is (h w) (z w)) i-is (k .num)
+  num′ : Numbered (linksOf (recorded book places) W run beliefs (length (B w .items))) (last (runOf run)) fewest firsts
+  num′ = subst₂ (λ (n j : ℕ). Numbered (linksOf (recorded book places) W run beliefs n) j fewest firsts) (items-is (h w) (z w)) i-is (k .num)
 
   number-is : getD fewest i 0 ≡ getD fewest (last (runOf run)) 0
   number-is = ap (λ (j : ℕ). getD fewest j 0) i-is
 
   pub no-number : getD fewest i 0 ≡ none
-      → AssembleAs inBytes book run l (record { code = 11; place = 0; commands = 0; legs = 0; sum = 0; fewest = fewest }) (left read (l .room))
+      → AssembleAs inBytes book run l (record { code = 11; place = 0; commands = 0; legs = 0; sum = 0; fewest = fewest }) (beside (l .room) read)
   no-number s =
       answered w
-      (reached.no-chain (deviceOf (B w)) (B w .weights) (B w .items) run (allowed w) (itemAt (read .slots)) (fields (h w) (z w)) (read .weights)
-      (weighed (h w) (z w)) beliefs (held w (k .believed)) (l .room) (k .some) num′ (sym number-is ∙ s))
+      (reached.no-chain (deviceOf (B w)) (B w .weights) (B w .items) run (allowed w) beliefs (held w (k .believed)) (l .room) (recorded book places)
+      (fields (h w) (z w) (k .placed)) W (weighed w) (k .some) num′ (sym number-is ∙ s))
 
   module _ (number : getD fewest i 0 ≡ none → ⊥) where
-    pub found : ChainFound (itemAt (read .slots)) fewest firsts (l .room) (answerOf (B w) run) i
+    pub found : ChainFound (recorded book places) fewest firsts (l .room) (answerOf (B w) run) i
     found =
-        subst (ChainFound (itemAt (read .slots)) fewest firsts (l .room) (answerOf (B w) run)) (sym i-is)
-        (reached.chain-found (deviceOf (B w)) (B w .weights) (B w .items) run (allowed w) (itemAt (read .slots)) (fields (h w) (z w)) (read .weights)
-        (weighed (h w) (z w)) beliefs (held w (k .believed)) (l .room) (k .some) num′ (λ e. number (number-is ∙ e)))
+        subst (ChainFound (recorded book places) fewest firsts (l .room) (answerOf (B w) run)) (sym i-is)
+        (reached.chain-found (deviceOf (B w)) (B w .weights) (B w .items) run (allowed w) beliefs (held w (k .believed)) (l .room) (recorded book places)
+        (fields (h w) (z w) (k .placed)) W (weighed w) (k .some) num′ (λ e. number (number-is ∙ e)))
 
-    pub written : {counts : Counts} {room : Room ℕ} → Walked (itemAt (read .slots)) firsts i (l .room .plan) (l .room .legs) counts (room .plan) (room .legs)
-        → AssembleAs inBytes book run l (counted (counts .commands) (counts .legs) (getD fewest i 0) fewest) (left read room)
+    pub written : {counts : Counts} {room : Room ℕ} → Walked (recorded book places) firsts i (l .room .plan) (l .room .legs) counts (room .plan) (room .legs)
+        → AssembleAs inBytes book run l (counted (counts .commands) (counts .legs) (getD fewest i 0) fewest) (beside room read)
     written x = answered w (found .stored x)

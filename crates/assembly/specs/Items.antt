@@ -6,9 +6,14 @@ use Prim.Native.Nat.{ℕ, _<_}
 use lib.ListN.{length, getD}
 use Rattle.reversal.specs.Reversal.{Item}
 use Rattle.reversal.specs.Chains.{item}
+use Rattle.items.specs.Items.{itemIn}
 
 abbrev pub Items : Type 0
 Items = ℕ → Item
+
+-- the items in a book's bytes, item a at the a-th of the places
+abbrev pub recorded : List ℕ → List ℕ → Items
+recorded book places a = itemIn book (getD places a 0)
 
 -- the number of forward commands of item a
 abbrev pub kOf : Items → ℕ → ℕ

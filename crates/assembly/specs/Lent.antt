@@ -26,13 +26,16 @@ pub record Room (E : Type 0) : Type 0 where
   pub plan : List ℕ
   pub legs : List E
 
+abbrev pub lentRoom : {E : Type 0} → List ℕ → List E → Room E
+lentRoom plan legs = record { plan = plan; legs = legs }
+
 -- all that are lent: those that reading fills, and those that assembling writes
 pub record AllLent (E : Type 0) : Type 0 where
   pub read : Lent
   pub room : Room E
 
 abbrev pub allLent : {E : Type 0} → Lent → List ℕ → List E → AllLent E
-allLent read plan legs = record { read = read; room = record { plan = plan; legs = legs } }
+allLent read plan legs = record { read = read; room = lentRoom plan legs }
 
 -- "a plan buffer (256 bytes) and 32 legs": the lengths stated for them
 abbrev pub roomSizes : {E : Type 0} → LegForm E → Room E → List Sized

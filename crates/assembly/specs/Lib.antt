@@ -8,3 +8,4 @@ pub mod Assembles
 pub mod Contract
 pub mod Demand
 pub mod Cases
+pub mod Small

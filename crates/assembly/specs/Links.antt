@@ -1,4 +1,4 @@
--- Which item fits where, and the choice at a point, of the items by number, the run's bytes and the belief states as the code has them. proofs/ItemsFit
+-- Whether an item fits, and the choice at a point, of the items by number, the run's bytes and the belief states as the code has them. proofs/ItemsFit
 -- ties them to reversal's links. Assumes nothing: these are definitions.
 use mathlib.Core.Path.{_≡_}
 use mathlib.Core.Bool.{Bool}
@@ -9,24 +9,25 @@ use lib.ListN.{getD, length, replicate}
 use Rattle.base.specs.Tests.{both}
 use Rattle.base.specs.Bounded.{all, least, seek}
 use Rattle.base.specs.Masks.{inside}
+use Rattle.reversal.specs.Reversal.{Item}
 use Rattle.reversal.specs.Weights.{sumOf}
 use Rattle.reversal.specs.Chains.{none}
 use Rattle.reversal.specs.Computed.Least.{Links, via, leasts, leastAt, begins}
 use Rattle.runs.specs.Computed.{commandOf}
 use Rattle.assembly.specs.Items.{Items, kOf}
 
--- the first x forward commands of item a are the run's below point j
-unfoldable pub sameAt : Items → List ℕ → ℕ → ℕ → ℕ → Bool
-sameAt F s a j x = all (λ y. eqb (getD (F a .forward) y 0) (commandOf s (j - kOf F a + y))) x
+-- the first c forward commands of item x are the run's below point j
+unfoldable pub sameAt : Item → List ℕ → ℕ → ℕ → Bool
+sameAt x s j c = all (λ y. eqb (getD (x .forward) y 0) (commandOf s (j - length (x .forward) + y))) c
 
-unfoldable pub fitsAt : Items → List ℕ → List ℕ → ℕ → ℕ → Bool
-fitsAt F s sets a j =
-    both (leb (kOf F a) j)
-    (both (sameAt F s a j (kOf F a)) (both (inside (getD sets j 0) (F a .phi)) (inside (getD sets (j - kOf F a) 0) (F a .psi))))
+unfoldable pub fitsAt : Item → List ℕ → List ℕ → ℕ → Bool
+fitsAt x s sets j =
+    let k = length (x .forward) in
+    both (leb k j) (both (sameAt x s j k) (both (inside (getD sets j 0) (x .phi)) (inside (getD sets (j - k) 0) (x .psi))))
 
 -- the links by the sums of the reverse commands' weights
 abbrev pub linksOf : Items → List ℕ → List ℕ → List ℕ → ℕ → Links
-linksOf F ws s sets count = record { count = count; k = kOf F; price = λ a. sumOf ws (F a .reverse); fit = fitsAt F s sets; top = none }
+linksOf F ws s sets count = record { count = count; k = kOf F; price = λ a. sumOf ws (F a .reverse); fit = λ a. fitsAt (F a) s sets; top = none }
 
 -- of the first count items: the least number by way of one of them, and the lowest that has it
 pub record Chosen (R : Links) (ns : List ℕ) (j count number item : ℕ) : Type 0 where

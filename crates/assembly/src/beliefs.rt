@@ -1,14 +1,21 @@
 // The possible states at each point of a run.
 use states::StateSet;
 ghost use Prim.Native.Nat.{_≤_};
-ghost use Rattle.reversal.specs.Device.{tabled};
+ghost use Rattle.states.specs.StateSets.{deviceIn};
 ghost use Rattle.runs.specs.Computed.{lastOf, runOf};
 ghost use Rattle.assembly.specs.Believed.{Believed};
 
 // One forward and one backward pass over the run: the possible states at the points 0 to i.
-pub(crate) fn beliefs(run: &[u8], table: &[u64], n: u64, m: u64) -> [u64; 33]
+pub(crate) fn beliefs(
+    run: &[u8],
+    book: &[u8],
+    masks: &[u64],
+    tabled: bool,
+    n: u64,
+    m: u64,
+) -> [u64; 33]
     requires { ⌜ (n ≤ 64) × (m ≤ 32) × (lastOf (now run) ≤ 32) ⌝ }
-    ensures { λ r. ⌜ Believed (tabled n m (now (table .entry))) (runOf (now (run .entry))) r ⌝ }
+    ensures { λ r. ⌜ Believed (deviceIn tabled (now (book .entry)) (now (masks .entry)) n m) (runOf (now (run .entry))) r ⌝ }
 {
     let i = runs::last_point(run);
     let mut sets = [0u64; 33];
@@ -16,7 +23,7 @@ pub(crate) fn beliefs(run: &[u8], table: &[u64], n: u64, m: u64) -> [u64; 33]
     let mut j: u64 = 0;
     while j < i {
         let set = StateSet::of(sets[j as usize])
-            .after(table, n, m, runs::command_at(run, j))
+            .after(book, masks, tabled, n, m, runs::command_at(run, j))
             .within(runs::percept_at(run, j + 1));
         sets[j as usize + 1] = set.mask;
         j = j + 1;
@@ -24,7 +31,9 @@ pub(crate) fn beliefs(run: &[u8], table: &[u64], n: u64, m: u64) -> [u64; 33]
     while 0 < j {
         j = j - 1;
         let set = StateSet::of(sets[j as usize]).before(
-            table,
+            book,
+            masks,
+            tabled,
             n,
             m,
             runs::command_at(run, j),

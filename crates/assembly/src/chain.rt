@@ -2,7 +2,7 @@
 ghost use mathlib.Core.Path.{_≡_};
 ghost use Prim.Native.Nat.{_<_};
 ghost use lib.Seq.{sets};
-ghost use Rattle.book.specs.Slots.{itemAt};
+ghost use Rattle.assembly.specs.Items.{recorded};
 ghost use Rattle.assembly.specs.ChainFollowed.{legBytes, Walkable, Walked};
 
 // What was written.
@@ -23,26 +23,27 @@ fn put_leg(legs: &mut [u8], at: usize, number: u64, upper: u64, lower: u64)
 
 // Follows the items from point i down to 0; writes the reverse commands and a leg of each.
 pub(crate) fn write_chain(
-    slots: &[u8],
+    book: &[u8],
+    places: &[u16],
     items: &[u8],
     i: u64,
     plan: &mut [u8],
     legs: &mut [u8],
 ) -> Counts
-    requires { ⌜ Walkable (itemAt (now slots)) (now items) i ⌝ }
-    ensures { λ r. ⌜ Walked (itemAt (now (slots .entry))) (now (items .entry)) i
+    requires { ⌜ Walkable (recorded (now book) (now places)) (now items) i ⌝ }
+    ensures { λ r. ⌜ Walked (recorded (now (book .entry)) (now (places .entry))) (now (items .entry)) i
         (now (plan .entry)) (now (legs .entry)) r (now (plan .exit)) (now (legs .exit)) ⌝ }
 {
     let mut j = i;
     let mut commands: u64 = 0;
     let mut count: u64 = 0;
     while 0 < j {
-        let a = octets::byte_at(items, j as usize) as u8;
-        let k = slots::k(slots, a);
-        let r = slots::r(slots, a);
-        slots::put_reverse(slots, a, r as usize, plan, commands as usize);
-        put_leg(legs, (3 * count) as usize, a as u64, j, j - k);
-        commands = commands + r;
+        let a = octets::byte_at(items, j as usize);
+        let item = items::parts_at(book, octets::word_at(places, a as usize) as usize);
+        let k = item.k as u64;
+        octets::copy(item.r, book, item.reverse, plan, commands as usize);
+        put_leg(legs, (3 * count) as usize, a, j, j - k);
+        commands = commands + item.r as u64;
         count = count + 1;
         j = j - k;
     }

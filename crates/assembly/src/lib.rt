@@ -5,17 +5,21 @@ mod points;
 
 use beliefs::beliefs;
 use chain::write_chain;
+use checker::Checking;
 use points::points_of;
 ghost use mathlib.Core.Path.{_≡_};
 ghost use Rattle.book.specs.Lent.{lent};
-ghost use Rattle.assembly.specs.Lent.{inBytes, allLent};
+ghost use Rattle.states.specs.StateSets.{deviceIn};
+ghost use Rattle.assembly.specs.Lent.{inBytes, lentRoom, allLent};
 ghost use Rattle.assembly.specs.Assembles.{refusal};
-ghost use Rattle.assembly.specs.Contract.{AssembleAs};
+ghost use Rattle.assembly.specs.Contract.{AssembleAs, Lending, PlannedAs, SmallAs};
 
-// The bytes of a lent plan, and of lent legs.
+// The bytes of a lent plan, and of lent legs; the masks of a lent scratch.
 pub const PLAN_LEN: usize = 256;
 
 pub const LEGS_LEN: usize = 96;
+
+pub const SCRATCH_LEN: usize = 64;
 
 // What assembling answers: the code and its place; the numbers of commands and legs and the sum of the commands' weights, each 0 on a refusal; the
 // least sum for each of the 33 points, 4,294,967,295 where there is no chain.
@@ -43,6 +47,53 @@ pub fn refused(code: u64, place: u64) -> Assembly
     }
 }
 
+// Assembles with a book that was accepted: the outcomes are read in a table or in the book's moves, as `tabled` says, and the items in their records.
+fn planned(
+    book: &[u8],
+    run: &[u8],
+    masks: &[u64],
+    tabled: bool,
+    weights: &[u16],
+    found: Checking,
+    plan: &mut [u8],
+    legs: &mut [u8],
+) -> Assembly
+    requires { ⌜ Lending (now book) (deviceIn tabled (now book) (now masks) (found .n) (found .m)) (now weights) found (lentRoom (now plan) (now legs)) ⌝ }
+    ensures { λ r. ⌜ PlannedAs (now (book .entry)) (now (run .entry)) found (lentRoom (now (plan .entry)) (now (legs .entry))) r
+        (lentRoom (now (plan .exit)) (now (legs .exit))) ⌝ }
+{
+    if !runs::run_fine(run, found.n, found.m) {
+        return refused(9, 0);
+    }
+    let sets = beliefs(run, book, masks, tabled, found.n, found.m);
+    if sets[0] == 0 {
+        return refused(10, 0);
+    }
+    let i = runs::last_point(run);
+    let places = items::places(book);
+    let points = points_of(book, &places, weights, found.items, run, &sets, i);
+    let sum = points.fewest[i as usize];
+    if sum == 4294967295 {
+        return Assembly {
+            code: 11,
+            place: 0,
+            commands: 0,
+            legs: 0,
+            sum: 0,
+            fewest: points.fewest,
+        };
+    }
+    let counts = write_chain(book, &places, &points.items, i, plan, legs);
+    Assembly {
+        code: 0,
+        place: 0,
+        commands: counts.commands,
+        legs: counts.legs,
+        sum: sum as u64,
+        fewest: points.fewest,
+    }
+}
+
 // Checks the book, and writes the plan and the legs of the chain from the run's last point with the least sum.
 pub fn assemble(
     book: &[u8],
@@ -67,33 +118,35 @@ pub fn assemble(
     if found.code != 0 {
         return refused(found.code, found.place);
     }
-    if !runs::run_fine(run, found.n, found.m) {
-        return refused(9, 0);
+    planned(book, run, table, true, weights, found, plan, legs)
+}
+
+// The same with a scratch of at least 64 masks in place of table, slots and weights: it holds the index of the book's moves. No local array has over 64
+// elements.
+pub fn assemble_small(
+    book: &[u8],
+    run: &[u8],
+    scratch: &mut [u64],
+    plan: &mut [u8],
+    legs: &mut [u8],
+) -> Assembly
+    ensures { λ r. ⌜ SmallAs (now (book .entry)) (now (run .entry)) (now (scratch .entry)) (lentRoom (now (plan .entry)) (now (legs .entry))) r
+        (now (scratch .exit)) (lentRoom (now (plan .exit)) (now (legs .exit))) ⌝ }
+{
+    if plan.len() < PLAN_LEN {
+        return refused(1, 0);
     }
-    let sets = beliefs(run, table, found.n, found.m);
-    if sets[0] == 0 {
-        return refused(10, 0);
+    if legs.len() < LEGS_LEN {
+        return refused(1, 0);
     }
-    let i = runs::last_point(run);
-    let points = points_of(slots, weights, found.items, run, &sets, i);
-    let sum = points.fewest[i as usize];
-    if sum == 4294967295 {
-        return Assembly {
-            code: 11,
-            place: 0,
-            commands: 0,
-            legs: 0,
-            sum: 0,
-            fewest: points.fewest,
-        };
+    if scratch.len() < SCRATCH_LEN {
+        return refused(1, 0);
     }
-    let counts = write_chain(slots, &points.items, i, plan, legs);
-    Assembly {
-        code: 0,
-        place: 0,
-        commands: counts.commands,
-        legs: counts.legs,
-        sum: sum as u64,
-        fewest: points.fewest,
+    let found = checker::check_small(book, scratch);
+    if found.code != 0 {
+        return refused(found.code, found.place);
     }
+    let mut weights = [0u16; book::WEIGHTS_LEN];
+    reader::fill_weights(book, &mut weights);
+    planned(book, run, scratch, false, &weights, found, plan, legs)
 }

@@ -105,7 +105,7 @@ present-unique {n} {w} {xs} {ys} p q = ascending-same xs ys (p .ascending) (q .a
     into {xs} p q s h = let (l, k) = each-among (λ s. (s < n) × In w s) xs (p .each-there) s h in q .none-missing s l k
 
 -- ---- by the lowest and the rest
-present-same : (n a b : ℕ) → ((s : ℕ) → s < n → member a s ≡ member b s) → present n a ≡ present n b
+pub present-same : (n a b : ℕ) → ((s : ℕ) → s < n → member a s ≡ member b s) → present n a ≡ present n b
 unfolding present
 present-same zero a b e = refl
 present-same (suc n) a b e =
@@ -182,7 +182,7 @@ digit (suc zero) h = refl
 digit (suc (suc b)) h = absurd (omega arith)
 
 -- the lowest, and those of the half
-half-cardinality : (n w : ℕ) → cardinality (suc n) w ≡ w % 2 + cardinality n (w / 2)
+pub half-cardinality : (n w : ℕ) → cardinality (suc n) w ≡ w % 2 + cardinality n (w / 2)
 unfolding present member
 half-cardinality zero w = omega (arith, cardinality-suc 0 w, digit (w / 2 ^ 0 % 2) (omega arith))
 half-cardinality (suc n) w =

@@ -3,16 +3,11 @@
 // A case is the book's length and the run's, two bytes each; the book; the run.
 use assembly::Assembly;
 
-// The bytes that the legs take, at most 96.
-fn leg_bytes(legs: u64) -> usize {
-    if legs < 32 { 3 * legs as usize } else { 96 }
-}
-
 fn print_answer(r: Assembly, plan: &[u8], legs: &[u8]) {
     let row = [r.code, r.place, r.commands, r.legs, r.sum];
     vectors::print_numbers(&row, 5);
     vectors::print_bytes(plan, r.commands as usize);
-    vectors::print_bytes(legs, leg_bytes(r.legs));
+    vectors::print_bytes(legs, vectors::leg_bytes(r.legs));
     vectors::print_longs(&r.fewest, 33);
 }
 

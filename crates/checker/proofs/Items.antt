@@ -2,21 +2,21 @@
 use mathlib.Core.Path.{_≡_, refl, sym, ap, ap₂, _∙_}
 use mathlib.Core.Bool.{Bool, true, false, not}
 use mathlib.Core.List.{List, [], _∷_, _++_}
-use Prim.Native.Nat.{ℕ, _+_, _-_, _^_, _≤_, _<_}
+use Prim.Native.Nat.{ℕ, _+_, _^_, _≤_, _<_}
 use native.Mathlib.Numerals.{add-one}
 use native.Mathlib.Omega.{arith}
 use borrow.Author.Tests.{lt-ltb}
 use lib.Bits.{bitAnd}
 use lib.Dec.{eqb}
 use lib.ListN.{length, getD, take, drop}
-use lib.Seq.{take-suc, take-all}
+use lib.Seq.{take-suc, take-all, getD-drop, getD-take}
 use Rattle.base.specs.Tests.{pick, both, imp}
 use Rattle.base.specs.Cardinality.{present}
 use Rattle.base.specs.Masks.{added, without, lowestIn}
 use Rattle.base.proofs.Tests.{pick-self, pick-either}
 use Rattle.base.proofs.Present.{present-end, present-next}
 use Rattle.base.proofs.Visiting.{gathered, Visiting, visit-next, visit-end, allSoFar, someSoFar, all-gathered, any-gathered, all-failed}
-use Rattle.reversal.specs.Device.{Device, tabled}
+use Rattle.reversal.specs.Device.{Device}
 use Rattle.reversal.specs.Reversal.{Item}
 use Rattle.reversal.specs.Computed.Sets.{after, reach, runsBack, ends, startOk, reverses, startUsed, effective}
 use Rattle.reversal.specs.Computed.Units.{backUnits, startMade, startsMade, itemMade}
@@ -40,11 +40,7 @@ abbrev hasEnd : Device → Item → ℕ → Bool
 hasEnd d x S = not (eqb (ends d (x .forward) (x .phi) S) 0)
 
 -- ---- what is read of an item is p
-module _ (n m : ℕ) (table s : List ℕ) (p : Place) where
-  -- the device in the table
-  abbrev d : Device
-  d = tabled n m table
-
+module _ (d : Device) (s : List ℕ) (p : Place) where
   -- the set after the first j forward commands from a start, and a unit for each
   pub record Reached (S units : ℕ) (x : Counted) (j : ℕ) : Type 0 where
     pub count : x .units ≡ units + j
@@ -59,37 +55,33 @@ module _ (n m : ℕ) (table s : List ℕ) (p : Place) where
   -- so far, `before` where the item was begun, with those of the rest give the item's
   pub record Passed (before rest start units : ℕ) (used : Bool) : Type 0 where
     pub next : start ≡ lowestIn rest
-    pub all-pass : (x : Item) → Fields s p x → gathered (allSoFar (startOk d x)) n true rest ≡ reverses d x
-    pub some-used : (x : Item) → Fields s p x → gathered (someSoFar (hasEnd d x)) n used rest ≡ effective d x
-    pub count : (x : Item) → Fields s p x → units + startsMade d x (present n rest) ≡ before + itemMade d x
+    pub all-pass : (x : Item) → Fields s p x → gathered (allSoFar (startOk d x)) (d .n) true rest ≡ reverses d x
+    pub some-used : (x : Item) → Fields s p x → gathered (someSoFar (hasEnd d x)) (d .n) used rest ≡ effective d x
+    pub count : (x : Item) → Fields s p x → units + startsMade d x (present (d .n) rest) ≡ before + itemMade d x
 
   -- ---- forward commands
 
-  -- the part of the bytes that holds them
-  abbrev forward : List ℕ
-  forward = take (p .forward + p .k - p .forward) (drop (p .forward) s)
-
-  forward-is : (x : Item) → Fields s p x → forward ≡ x .forward
-  forward-is x f = let e : p .forward + p .k - p .forward ≡ p .k = omega arith in rw e (f .forward-is)
+  forward-at : (x : Item) → Fields s p x → (j : ℕ) → j < p .k → getD s (p .forward + j) 0 ≡ getD (x .forward) j 0
+  forward-at x f j l =
+      sym (getD-drop (p .forward) s j 0) ∙ sym (getD-take (p .k) (drop (p .forward) s) j 0 l) ∙ ap (λ (t : List ℕ). getD t j 0) (f .forward-is)
 
   pub reach-start : (S units : ℕ) (none set : StateSet) → S < 64 → none ≡ setOf 0 → set ≡ setOf (added (none .mask) S)
       → Reached S units (record { set = set; units = units }) 0
   unfolding reach added pick
   reach-start S units none set h z e = record { count = omega arith; set-is = λ x f. e ∙ rw (z, lt-ltb S 64 h) }
 
-  pub reach-next : (S units : ℕ) (x x′ : Counted) (j c : ℕ) → n ≤ 64 → m ≤ 32 → j < p .k → Reached S units x j → c ≡ getD forward j 0
-      → x′ ≡ countedSet (afterIn n m table c (x .set .mask)) (x .units + 1) → Reached S units x′ (j + 1)
+  pub reach-next : (S units : ℕ) (x x′ : Counted) (j c : ℕ) → d .n ≤ 64 → d .m ≤ 32 → j < p .k → Reached S units x j → c ≡ getD s (p .forward + j) 0
+      → x′ ≡ countedSet (afterIn d c (x .set .mask)) (x .units + 1) → Reached S units x′ (j + 1)
   reach-next S units x x′ j c hn hm l e b q =
       record {
         count = omega (arith, ap (λ (z : Counted). z .units) q, e .count);
         set-is =
             λ y f.
             let l′ : j < length (y .forward) = omega (arith, f .k-is) in
-            let here : getD forward j 0 ≡ getD (y .forward) j 0 = ap (λ (t : List ℕ). getD t j 0) (forward-is y f) in
             ap (λ (z : Counted). z .set) q
             ∙ ap setOf
-            (after-limits n m table c (x .set .mask) hn hm
-            ∙ ap₂ (after d) (b ∙ here) (ap (λ (z : StateSet). z .mask) (e .set-is y f))
+            (after-limits d c (x .set .mask) hn hm
+            ∙ ap₂ (after d) (b ∙ forward-at y f j l) (ap (λ (z : StateSet). z .mask) (e .set-is y f))
             ∙ sym (reach-append d (2 ^ S) (take j (y .forward)) (getD (y .forward) j 0))
             ∙ ap (reach d (2 ^ S)) (sym (take-suc (y .forward) j 0 l′) ∙ ap (λ (k : ℕ). take k (y .forward)) (sym (add-one j))));
       }
@@ -113,37 +105,37 @@ module _ (n m : ℕ) (table s : List ℕ) (p : Place) where
   none-passed units psi start e l =
       record {
         next = l;
-        all-pass = λ x f. ap (gathered (allSoFar (startOk d x)) n true) (e ∙ f .psi-is) ∙ all-gathered (startOk d x) n (x .psi);
-        some-used = λ x f. ap (gathered (someSoFar (hasEnd d x)) n false) (e ∙ f .psi-is) ∙ any-gathered (hasEnd d x) n (x .psi);
-        count = λ x f. ap (λ (w : ℕ). units + startsMade d x (present n w)) (e ∙ f .psi-is);
+        all-pass = λ x f. ap (gathered (allSoFar (startOk d x)) (d .n) true) (e ∙ f .psi-is) ∙ all-gathered (startOk d x) (d .n) (x .psi);
+        some-used = λ x f. ap (gathered (someSoFar (hasEnd d x)) (d .n) false) (e ∙ f .psi-is) ∙ any-gathered (hasEnd d x) (d .n) (x .psi);
+        count = λ x f. ap (λ (w : ℕ). units + startsMade d x (present (d .n) w)) (e ∙ f .psi-is);
       }
 
   module _ (before rest start units : ℕ) {used : Bool} (passed : Passed before rest start units used) where
     module _ (x : Item) (q : Fields s p x) where
-      all-visiting : Visiting (allSoFar (startOk d x)) n (reverses d x) true rest start
+      all-visiting : Visiting (allSoFar (startOk d x)) (d .n) (reverses d x) true rest start
       all-visiting = record { lowest = passed .next; gives = passed .all-pass x q }
 
-      some-visiting : Visiting (someSoFar (hasEnd d x)) n (effective d x) used rest start
+      some-visiting : Visiting (someSoFar (hasEnd d x)) (d .n) (effective d x) used rest start
       some-visiting = record { lowest = passed .next; gives = passed .some-used x q }
 
     -- all starts
-    pub starts-done : n ≤ start → (x : Item) → Fields s p x → (reverses d x ≡ true) × (effective d x ≡ used) × (units ≡ before + itemMade d x)
+    pub starts-done : d .n ≤ start → (x : Item) → Fields s p x → (reverses d x ≡ true) × (effective d x ≡ used) × (units ≡ before + itemMade d x)
     unfolding startsMade
     starts-done l x q =
-        let none : present n rest ≡ [] = present-end n rest (omega (arith, passed .next)) in (
-          sym (visit-end (allSoFar (startOk d x)) n (reverses d x) true rest start (all-visiting x q) l),
-          sym (visit-end (someSoFar (hasEnd d x)) n (effective d x) used rest start (some-visiting x q) l),
+        let none : present (d .n) rest ≡ [] = present-end (d .n) rest (omega (arith, passed .next)) in (
+          sym (visit-end (allSoFar (startOk d x)) (d .n) (reverses d x) true rest start (all-visiting x q) l),
+          sym (visit-end (someSoFar (hasEnd d x)) (d .n) (effective d x) used rest start (some-visiting x q) l),
           let e = rw none at (passed .count x q) in omega arith,
         )
 
-    module _ (hn : n ≤ 64) (l : start < n) where
+    module _ (hn : d .n ≤ 64) (l : start < d .n) where
       -- the units of this start, and of those after it
       this-start : (x : Item) → Fields s p x
-          → units + (startMade d x start + pick (startOk d x start) (startsMade d x (present n (without rest start))) 0) ≡ before + itemMade d x
+          → units + (startMade d x start + pick (startOk d x start) (startsMade d x (present (d .n) (without rest start))) 0) ≡ before + itemMade d x
       unfolding startsMade
       this-start x q =
-          let split : present n rest ≡ start ∷ present n (without rest start)
-          = rw (passed .next) (present-next n rest hn (omega (arith, passed .next))) in
+          let split : present (d .n) rest ≡ start ∷ present (d .n) (without rest start)
+          = rw (passed .next) (present-next (d .n) rest hn (omega (arith, passed .next))) in
           rw split at (passed .count x q)
 
       -- one start more, which passes, and is used or not
@@ -156,12 +148,12 @@ module _ (n m : ℕ) (table s : List ℕ) (p : Place) where
             next = f;
             all-pass =
                 λ x q.
-                ap (λ (b : Bool). gathered (allSoFar (startOk d x)) n b rest′) (sym (g x q .0))
-                ∙ visit-next (allSoFar (startOk d x)) n (reverses d x) true rest start (all-visiting x q) hn rest′ start′ l e f .gives;
+                ap (λ (b : Bool). gathered (allSoFar (startOk d x)) (d .n) b rest′) (sym (g x q .0))
+                ∙ visit-next (allSoFar (startOk d x)) (d .n) (reverses d x) true rest start (all-visiting x q) hn rest′ start′ l e f .gives;
             some-used =
                 λ x q.
-                ap (λ (b : Bool). gathered (someSoFar (hasEnd d x)) n b rest′) (sym (g x q .1))
-                ∙ visit-next (someSoFar (hasEnd d x)) n (effective d x) used rest start (some-visiting x q) hn rest′ start′ l e f .gives;
+                ap (λ (b : Bool). gathered (someSoFar (hasEnd d x)) (d .n) b rest′) (sym (g x q .1))
+                ∙ visit-next (someSoFar (hasEnd d x)) (d .n) (effective d x) used rest start (some-visiting x q) hn rest′ start′ l e f .gives;
             count =
                 λ x q.
                 let h = rw (g x q .0, ← e) at (this-start x q) in
@@ -169,19 +161,16 @@ module _ (n m : ℕ) (table s : List ℕ) (p : Place) where
           }
 
       module _ (at : Counted) (all-ends : Ended start units at) where
-        -- the part of the bytes that is lent to `runs_back`
+        -- the part of the bytes that `runs_back` goes through
         abbrev reverse : List ℕ
-        reverse = take (p .reverse + p .r - p .reverse) (drop (p .reverse) s)
-
-        reverse-is : (x : Item) → Fields s p x → reverse ≡ x .reverse
-        reverse-is x f = let e : p .reverse + p .r - p .reverse ≡ p .r = omega arith in rw e (f .reverse-is)
+        reverse = take (p .r) (drop (p .reverse) s)
 
         module _ (back : Back) (run : back ≡ backOf d at reverse start) where
           -- its units
           made : (x : Item) → Fields s p x → back .units ≡ units + startMade d x start
           unfolding startMade
           made x q =
-              omega (arith, ap (λ (b : Back). b .units) run, ap₂ (backUnits d) (all-ends .ends-are x q) (reverse-is x q), all-ends .count, q .k-is)
+              omega (arith, ap (λ (b : Back). b .units) run, ap₂ (backUnits d) (all-ends .ends-are x q) (q .reverse-is), all-ends .count, q .k-is)
 
           pub start-none : (rest′ start′ : ℕ) → rest′ ≡ without rest start → start′ ≡ lowestIn rest′ → eqb (at .set .mask) 0 ≡ true
               → Passed before rest′ start′ (back .units) used
@@ -196,7 +185,7 @@ module _ (n m : ℕ) (table s : List ℕ) (p : Place) where
           start-back rest′ start′ e f z g =
               let right : runsBack d (at .set .mask) reverse start ≡ true = sym (ap (λ (b : Back). b .right) run) ∙ g in
               one-passed rest′ start′ e f true (back .units)
-              (λ x q. (rw (← all-ends .ends-are x q, z, ← reverse-is x q, right), rw (← all-ends .ends-are x q, z) (pick-either used true), made x q))
+              (λ x q. (rw (← all-ends .ends-are x q, z, ← q .reverse-is, right), rw (← all-ends .ends-are x q, z) (pick-either used true), made x q))
 
           pub start-fails : eqb (at .set .mask) 0 ≡ false → back .right ≡ false → (x : Item) → Fields s p x
               → (reverses d x ≡ false) × (back .units ≡ before + itemMade d x)
@@ -204,9 +193,9 @@ module _ (n m : ℕ) (table s : List ℕ) (p : Place) where
           start-fails z g x q =
               let rest′ = without rest start in
               let wrong : runsBack d (at .set .mask) reverse start ≡ false = sym (ap (λ (b : Back). b .right) run) ∙ g in
-              let fails : startOk d x start ≡ false = rw (← all-ends .ends-are x q, z, ← reverse-is x q, wrong) in (
-                sym (visit-next (allSoFar (startOk d x)) n (reverses d x) true rest start (all-visiting x q) hn rest′ (lowestIn rest′) l refl refl .gives)
-                    ∙ ap (λ (b : Bool). gathered (allSoFar (startOk d x)) n b rest′) fails
-                    ∙ all-failed (startOk d x) n rest′,
+              let fails : startOk d x start ≡ false = rw (← all-ends .ends-are x q, z, ← q .reverse-is, wrong) in (
+                sym (visit-next (allSoFar (startOk d x)) (d .n) (reverses d x) true rest start (all-visiting x q) hn rest′ (lowestIn rest′) l refl refl .gives)
+                    ∙ ap (λ (b : Bool). gathered (allSoFar (startOk d x)) (d .n) b rest′) fails
+                    ∙ all-failed (startOk d x) (d .n) rest′,
                 let h = rw fails at (this-start x q) in omega (arith, made x q),
               )

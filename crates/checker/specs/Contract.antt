@@ -2,9 +2,10 @@
 use mathlib.Core.Path.{_≡_}
 use mathlib.Core.Bool.{not}
 use mathlib.Core.List.{List}
-use Prim.Native.Nat.{ℕ, _+_, _<_}
-use lib.ListN.{length}
+use Prim.Native.Nat.{ℕ, _+_, _≤_, _<_}
+use lib.ListN.{length, drop}
 use Rattle.base.specs.Lists.{Each}
+use Rattle.base.specs.Sizes.{LongEnough}
 use Rattle.base.specs.Tests.{pick}
 use Rattle.base.specs.Compare.{less}
 use Rattle.base.specs.Bounded.{seek}
@@ -13,8 +14,10 @@ use Rattle.reversal.specs.Reversal.{Item}
 use Rattle.reversal.specs.Chains.{item}
 use Rattle.reversal.specs.Computed.Sets.{runsBack, reverses, accepts}
 use Rattle.reversal.specs.Computed.Units.{backUnits, itemsMade}
+use Rattle.moves.specs.Moves.{moved}
 use Rattle.book.specs.Book.{Book, deviceOf, AllowedBook, bytesOf}
-use Rattle.book.specs.Lent.{Lent}
+use Rattle.book.specs.Lent.{Lent, sizes}
+use Rattle.reader.specs.declared.Reading.{Reading}
 use Rattle.reader.specs.Reads.{refusal, done}
 use Rattle.reader.specs.Contract.{readBy, lentBy}
 use Rattle.checker.specs.declared.counted.Counted.{Counted}
@@ -53,7 +56,7 @@ judgementOf b = pick (less (wrongItem b) (length (b .items))) (Wrong (placeOf b 
 abbrev pub unitsOf : Book → ℕ
 unitsOf b = itemsMade (deviceOf b) (b .items)
 
--- the contract of `first_wrong`: book s, the device d in the table, answer r
+-- the contract of `first_wrong`: book s, the device d that is lent, answer r
 abbrev pub Judged : List ℕ → Device → JudgementMade → Type 0
 Judged s d r = (b : Book) → AllowedBook b → bytesOf b ≡ s → d ≡ deviceOf b → r ≡ record { found = judgementOf b; units = unitsOf b }
 
@@ -64,6 +67,11 @@ onJudgement (Wrong place why) refuse fine = refuse (codeOf why) place
 -- of a book that was read: the code for its first wrong item, at that item's place, else `fine`
 abbrev pub judgedBy : {A : Type 0} → (ℕ → ℕ → A) → (Book → A) → Book → A
 judgedBy refuse fine b = onJudgement (judgementOf b) refuse (fine b)
+
+-- the contract of `judge_items`: book s, the device d that is lent, what reading found, answer r
+abbrev pub JudgedAs : List ℕ → Device → Reading → Checking → Type 0
+JudgedAs s d found r =
+    (b : Book) → AllowedBook b → bytesOf b ≡ s → d ≡ deviceOf b → r ≡ withUnits (onJudgement (judgementOf b) refusal found) (unitsOf b)
 
 -- `refuse` with the first code and its place, `fine` with an accepted book
 unfoldable pub checkBy : {A : Type 0} → List ℕ → Lent → (ℕ → ℕ → A) → (Book → A) → A
@@ -78,3 +86,10 @@ pub record CheckAs (s : List ℕ) (l : Lent) (r : Checking) (l′ : Lent) : Type
   pub bytes : Each (λ x. x < 256) s
   pub result : r ≡ withUnits (checkBy s l refusal done) (unitsBy s l)
   pub buffers : l′ ≡ lentBy s l
+
+-- the contract of `check_small`, with a scratch of 64 masks: in all buffers that are long enough `check` answers the same; where the book is accepted,
+-- its device is in its moves and the scratch; what lies past the 64 stays
+pub record CheckSmallAs (s scratch : List ℕ) (r : Checking) (scratch′ : List ℕ) : Type 0 where
+  pub alike : 64 ≤ length scratch → (l : Lent) → LongEnough (sizes l) → CheckAs s l r (lentBy s l)
+  pub device : 64 ≤ length scratch → r .code ≡ 0 → (b : Book) → AllowedBook b → bytesOf b ≡ s → moved s (b .n) (b .m) scratch′ ≡ deviceOf b
+  pub rest : drop 64 scratch′ ≡ drop 64 scratch

@@ -1,6 +1,7 @@
 -- What the methods of `Counted` give. Assumes nothing: these are definitions.
-use mathlib.Core.List.{List}
 use Prim.Native.Nat.{ℕ, _+_}
+use Rattle.reversal.specs.Device.{Device}
+use Rattle.states.specs.declared.Sent.{Sent}
 use Rattle.states.specs.StateSets.{setOf, sentIn}
 use Rattle.checker.specs.declared.counted.Counted.{Counted}
 use Rattle.checker.specs.declared.counted.SentCounted.{SentCounted}
@@ -9,10 +10,10 @@ use Rattle.checker.specs.declared.counted.SentCounted.{SentCounted}
 abbrev pub countedSet : ℕ → ℕ → Counted
 countedSet w units = record { set = setOf w; units = units }
 
+-- what sending a command gave, with the units
+abbrev pub joined : Sent → ℕ → SentCounted
+joined sent units = record { able = sent .able; next = record { set = sent .set; units = units } }
+
 -- 02: "One unit is one command applied to one set, an empty set too."
-abbrev pub sentCounted : ℕ → ℕ → List ℕ → ℕ → Counted → SentCounted
-sentCounted n m table c x =
-    record {
-      able = sentIn n m table c (x .set .mask) .able;
-      next = record { set = sentIn n m table c (x .set .mask) .set; units = x .units + 1 };
-    }
+abbrev pub sentCounted : Device → ℕ → Counted → SentCounted
+sentCounted d c x = joined (sentIn d c (x .set .mask)) (x .units + 1)

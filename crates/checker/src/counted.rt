@@ -1,10 +1,12 @@
-// A set of states with the units made to get to it. One unit is one command applied to one set; the check applies commands here alone.
+// A set of states with the units made to get to it. One unit is one command applied to one set; the check applies commands here alone. Each call of
+// `after` and `sent` has a constant for `tabled`, so that the compiler can leave the test out of the loop over the states.
+use states::Sent;
 use states::StateSet;
 ghost use mathlib.Core.Path.{_≡_};
 ghost use Prim.Native.Nat.{_+_, _^_, _<_};
 ghost use lib.Bits.{bitAnd};
-ghost use Rattle.states.specs.StateSets.{afterIn};
-ghost use Rattle.checker.specs.Counted.{countedSet, sentCounted};
+ghost use Rattle.states.specs.StateSets.{deviceIn, afterIn};
+ghost use Rattle.checker.specs.Counted.{countedSet, joined, sentCounted};
 
 // The set, and the units so far.
 pub struct Counted {
@@ -14,14 +16,29 @@ pub struct Counted {
 
 impl Counted {
     // The set after a command, an empty one too: one unit more.
-    pub(crate) fn after(self, table: &[u64], n: u64, m: u64, command: u64) -> Self
+    pub(crate) fn after(
+        self,
+        book: &[u8],
+        masks: &[u64],
+        tabled: bool,
+        n: u64,
+        m: u64,
+        command: u64,
+    ) -> Self
         requires { ⌜ self .units + 1 < 2 ^ 64 ⌝ }
-        ensures { λ r. ⌜ r ≡ countedSet (afterIn n m (now (table .entry)) command (self .set .mask)) (self .units + 1) ⌝ }
+        ensures { λ r. ⌜ r ≡ countedSet (afterIn (deviceIn tabled (now (book .entry)) (now (masks .entry)) n m) command (self .set .mask)) (self .units + 1) ⌝ }
     {
         let set = self.set;
+        let units = self.units + 1;
+        if tabled {
+            return Counted {
+                set: set.after(book, masks, true, n, m, command),
+                units: units,
+            };
+        }
         Counted {
-            set: set.after(table, n, m, command),
-            units: self.units + 1,
+            set: set.after(book, masks, false, n, m, command),
+            units: units,
         }
     }
 
@@ -37,21 +54,24 @@ impl Counted {
     }
 
     // The command sent in every state of the set: one unit more, whether each can carry it out or not.
-    pub(crate) fn sent(self, table: &[u64], n: u64, m: u64, command: u64) -> SentCounted
+    pub(crate) fn sent(
+        self,
+        book: &[u8],
+        masks: &[u64],
+        tabled: bool,
+        n: u64,
+        m: u64,
+        command: u64,
+    ) -> SentCounted
         requires { ⌜ self .units + 1 < 2 ^ 64 ⌝ }
-        ensures { λ r. ⌜ r ≡ sentCounted n m (now (table .entry)) command self ⌝ }
+        ensures { λ r. ⌜ r ≡ sentCounted (deviceIn tabled (now (book .entry)) (now (masks .entry)) n m) command self ⌝ }
     {
         let set = self.set;
-        let sent = set.sent(table, n, m, command);
-        let after = sent.set;
-        let next = Counted {
-            set: after,
-            units: self.units + 1,
-        };
-        SentCounted {
-            able: sent.able,
-            next: next,
+        let units = self.units + 1;
+        if tabled {
+            return joined(set.sent(book, masks, true, n, m, command), units);
         }
+        joined(set.sent(book, masks, false, n, m, command), units)
     }
 }
 
@@ -59,4 +79,19 @@ impl Counted {
 pub struct SentCounted {
     pub able: bool,
     pub next: Counted,
+}
+
+// What sending a command gave, with the units.
+fn joined(sent: Sent, units: u64) -> SentCounted
+    ensures { λ r. ⌜ r ≡ joined sent units ⌝ }
+{
+    let after = sent.set;
+    let next = Counted {
+        set: after,
+        units: units,
+    };
+    SentCounted {
+        able: sent.able,
+        next: next,
+    }
 }

@@ -6,13 +6,13 @@ use reader::Reading;
 use states::StateSet;
 ghost use mathlib.Core.Path.{_≡_};
 ghost use Prim.Native.Nat.{_+_, _^_, _<_, _≤_};
-ghost use lib.ListN.{length};
-ghost use Rattle.reversal.specs.Device.{tabled};
+ghost use lib.ListN.{length, take, drop};
+ghost use Rattle.states.specs.StateSets.{deviceIn};
 ghost use Rattle.book.specs.Book.{WellFormed};
 ghost use Rattle.book.specs.Lent.{lent};
 ghost use Rattle.checker.specs.Reasons.{codeOf};
 ghost use Rattle.checker.specs.Checks.{withUnits};
-ghost use Rattle.checker.specs.Contract.{backOf, Judged, CheckAs};
+ghost use Rattle.checker.specs.Contract.{backOf, Judged, JudgedAs, CheckAs, CheckSmallAs};
 
 // Why an item is not accepted.
 pub enum Reason {
@@ -52,21 +52,31 @@ struct Back {
     units: u64,
 }
 
-// A reverse run: no command left and the goal alone in the set, or a next command that every state of the set can carry out, with the
-// rest run from the set after it.
-fn runs_back(from: Counted, table: &[u64], n: u64, m: u64, commands: &[u8], goal: u64) -> Back
-    requires { ⌜ (n ≤ 64) × (m ≤ 32) × (goal < 64) × (from .units + length (now commands) < 2 ^ 64) ⌝ }
-    ensures { λ r. ⌜ r ≡ backOf (tabled n m (now (table .entry))) from (now (commands .entry)) goal ⌝ }
+// A reverse run of the `left` commands that stand at a place of the book: no command left and the goal alone in the set, or a next command that every
+// state of the set can carry out, with the rest run from the set after it.
+fn runs_back(
+    from: Counted,
+    book: &[u8],
+    masks: &[u64],
+    tabled: bool,
+    n: u64,
+    m: u64,
+    at: usize,
+    left: usize,
+    goal: u64,
+) -> Back
+    requires { ⌜ (n ≤ 64) × (m ≤ 32) × (goal < 64) × (from .units + left < 2 ^ 64) × (at + left ≤ length (now book)) ⌝ }
+    ensures { λ r. ⌜ r ≡ backOf (deviceIn tabled (now (book .entry)) (now (masks .entry)) n m) from (take left (drop at (now (book .entry)))) goal ⌝ }
 {
-    if commands.len() == 0 {
+    if left == 0 {
         let set = from.set;
         return Back {
             right: set.is_only(goal),
             units: from.units,
         };
     }
-    let command = octets::byte_at(commands, 0);
-    let sent = from.sent(table, n, m, command);
+    let command = octets::byte_at(book, at);
+    let sent = from.sent(book, masks, tabled, n, m, command);
     let next = sent.next;
     if !sent.able {
         return Back {
@@ -74,23 +84,21 @@ fn runs_back(from: Counted, table: &[u64], n: u64, m: u64, commands: &[u8], goal
             units: next.units,
         };
     }
-    runs_back(next, table, n, m, &commands[1..], goal)
+    runs_back(next, book, masks, tabled, n, m, at + 1, left - 1, goal)
 }
 
 // The first item that is not accepted, from the book's bytes. For each start in psi, the ends in phi are run back together, and where there are
 // none the empty set, for its units alone; an item is effective if some start is used, that is, has an end. The search is left as soon as one
 // item fails.
-fn first_wrong(book: &[u8], table: &[u64], n: u64, m: u64) -> JudgementMade
+fn first_wrong(book: &[u8], masks: &[u64], tabled: bool, n: u64, m: u64) -> JudgementMade
     requires { ⌜ (n ≤ 64) × (m ≤ 32) × WellFormed (now book) ⌝ }
-    ensures { λ r. ⌜ Judged (now (book .entry)) (tabled n m (now (table .entry))) r ⌝ }
+    ensures { λ r. ⌜ Judged (now (book .entry)) (deviceIn tabled (now (book .entry)) (now (masks .entry)) n m) r ⌝ }
 {
     let mut at = items::first_item(book);
     let mut found = Judgement::AllAccepted;
     let mut units = 0;
     'items: while at < book.len() {
         let item = items::item_at(book, at);
-        let forward = item.forward;
-        let reverse = item.reverse;
         let mut used = false;
         let mut starts = StateSet::of(item.psi);
         let mut start = starts.lowest();
@@ -100,11 +108,11 @@ fn first_wrong(book: &[u8], table: &[u64], n: u64, m: u64) -> JudgementMade
                 units: units,
             };
             for j in 0..item.k {
-                let command = octets::byte_at(&book[forward..forward + item.k], j);
-                ends = ends.after(table, n, m, command);
+                let command = octets::byte_at(book, item.forward + j);
+                ends = ends.after(book, masks, tabled, n, m, command);
             }
             ends = ends.within(item.phi);
-            let back = runs_back(ends, table, n, m, &book[reverse..reverse + item.r], start);
+            let back = runs_back(ends, book, masks, tabled, n, m, item.reverse, item.r, start);
             units = back.units;
             let set = ends.set;
             if !set.is_empty() {
@@ -153,6 +161,21 @@ fn with_units(found: Reading, units: u64) -> Checking
     }
 }
 
+// The answer for a book that was read: the judgement of its items, with the units made.
+fn judge_items(book: &[u8], masks: &[u64], tabled: bool, found: Reading) -> Checking
+    requires { ⌜ (found .n ≤ 64) × (found .m ≤ 32) × WellFormed (now book) ⌝ }
+    ensures { λ r. ⌜ JudgedAs (now (book .entry)) (deviceIn tabled (now (book .entry)) (now (masks .entry)) (found .n) (found .m)) found r ⌝ }
+{
+    let judged = first_wrong(book, masks, tabled, found.n, found.m);
+    let judgement = judged.found;
+    match judgement {
+        Judgement::AllAccepted => with_units(found, judged.units),
+        Judgement::Wrong(place, why) => {
+            with_units(reader::refused(code_of(why), place), judged.units)
+        }
+    }
+}
+
 // Reads a book, and judges each of its items: the code of the first one that is not accepted, at the place of its record; the units made.
 pub fn check(book: &[u8], table: &mut [u64], slots: &mut [u8], weights: &mut [u16]) -> Checking
     ensures { λ r. ⌜ CheckAs (now (book .entry)) (lent (now (table .entry)) (now (slots .entry)) (now (weights .entry))) r
@@ -162,12 +185,17 @@ pub fn check(book: &[u8], table: &mut [u64], slots: &mut [u8], weights: &mut [u1
     if found.code != 0 {
         return with_units(found, 0);
     }
-    let judged = first_wrong(book, table, found.n, found.m);
-    let judgement = judged.found;
-    match judgement {
-        Judgement::AllAccepted => with_units(found, judged.units),
-        Judgement::Wrong(place, why) => {
-            with_units(reader::refused(code_of(why), place), judged.units)
-        }
+    judge_items(book, table, true, found)
+}
+
+// The same with a scratch of at least 64 masks in place of the buffers. Where the book was read the scratch holds the index of its moves.
+pub fn check_small(book: &[u8], scratch: &mut [u64]) -> Checking
+    ensures { λ r. ⌜ CheckSmallAs (now (book .entry)) (now (scratch .entry)) r (now (scratch .exit)) ⌝ }
+{
+    let found = reader::reading_of(book);
+    if found.code != 0 {
+        return with_units(found, 0);
     }
+    moves::index(book, scratch);
+    judge_items(book, scratch, false, found)
 }

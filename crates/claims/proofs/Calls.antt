@@ -35,10 +35,12 @@ use Rattle.writer.proofs.write as write
 use Rattle.assembly.specs.declared.Assembly.{Assembly}
 use Rattle.assembly.specs.Lent.{LegForm, inBytes, AllLent, allSizes}
 use Rattle.assembly.specs.Assembles.{Assembles}
-use Rattle.assembly.specs.Contract.{AssembleAs}
+use Rattle.assembly.specs.Contract.{AssembleAs, SmallAs}
 use Rattle.assembly.proofs.Exactly.{even-bytes, assembles}
 use Rattle.assembly.proofs.Demand.{demand}
+use Rattle.assembly.proofs.Small.{assembles-small, small-demand, resultBy, leftBy, first-gives, small-gives}
 use Rattle.assembly.proofs.assemble as assemble
+use Rattle.assembly.proofs.assemble_small as assemble-small
 use Rattle.lookups.specs.Rules.{DeviceRule, OutcomesOf, WorksOut}
 use Rattle.lookups.specs.Lookup.{EqualsRule}
 use Rattle.lookups.specs.Computed.{lookupOf, WorksOutAll}
@@ -65,8 +67,8 @@ use Rattle.report.specs.Contract.{ReportAs}
 use Rattle.report.proofs.Exactly.{reports}
 use Rattle.report.proofs.report as report
 use Rattle.claims.specs.Always.{Always}
-use Rattle.claims.specs.Claims.{onRead, onCheck, onForecast, onWrite, onAssemble, onLegs, onLayOut, onLookup, onOutcomes, onReport, WellWritten, ReadClaims, ChecksWrong, CheckClaims, ForecastNumbers, NoneExceeds, ForecastClaims, WriteClaims, AssembleClaims, LegsClaims, AsAssembling, PaperClaims, LookupClaims, RuleClaims, ConstantTable, RidgeTable, PortableTable, ReportClaims}
-use Rattle.claims.specs.Worked.{ChecksWorked, ForecastsWorked, AssemblesWorked, PaperWorked}
+use Rattle.claims.specs.Claims.{onRead, onCheck, onForecast, onWrite, onAssemble, onSmall, onLegs, onLayOut, onLookup, onOutcomes, onReport, WellWritten, ReadClaims, ChecksWrong, CheckClaims, ForecastNumbers, NoneExceeds, ForecastClaims, WriteClaims, AssembleClaims, SmallClaims, EqualForms, LegsClaims, AsAssembling, PaperClaims, LookupClaims, RuleClaims, ConstantTable, RidgeTable, PortableTable, ReportClaims}
+use Rattle.claims.specs.Worked.{ChecksWorked, ForecastsWorked, AssemblesWorked, SmallWorked, PaperWorked}
 use Rattle.claims.proofs.Weaker.{weaker}
 use Rattle.claims.proofs.RoundTrips.{read-back, write-back}
 use Rattle.claims.proofs.Foreseen.{units-foreseen}
@@ -77,6 +79,17 @@ constant-table {d} q = record { equals-rule = q; generated = entry-generated d q
 checks-wrong : (why : Reason) {book : List ℕ} {l : Lent} {r : Checking} {l′ : Lent} → Bytes book → Checks book l r l′
     → ChecksWrong (codeOf why) why book l r l′
 checks-wrong why h x = record { only = wrong-for h x why; always = λ long b a same i w. checked-wrong h x long a same w .0 }
+
+-- the two forms of assembling, each by its own contract
+pub equal-claims : (ρ σ : Routine) → Always assemble.ended ρ (onAssemble (AssembleAs inBytes)) → Always assemble-small.ended σ (onSmall SmallAs)
+    → EqualForms ρ σ
+equal-claims ρ σ first small =
+    record {
+      result = resultBy;
+      left = leftBy;
+      first = weaker assemble.ended ρ (onAssemble (AssembleAs inBytes)) _ (λ κs a r e c. first-gives c) first;
+      small = weaker assemble-small.ended σ (onSmall SmallAs) _ (λ κs a r e c. small-gives c) small;
+    }
 
 module _ (ρ : Routine) where
   pub read-claims : Always read.ended ρ (onRead ReadAs) → ReadClaims ρ
@@ -123,6 +136,13 @@ module _ (ρ : Routine) where
         says = weaker assemble.ended ρ (onAssemble (AssembleAs inBytes)) _ (λ κs a r e c. assembles even-bytes c) always;
         demand-three =
             weaker assemble.ended ρ (onAssemble (AssembleAs inBytes)) _ (λ κs a r e c. demand even-bytes (c .bytes) (assembles even-bytes c)) always;
+      }
+
+  pub small-claims : Always assemble-small.ended ρ (onSmall SmallAs) → SmallClaims ρ
+  small-claims always =
+      record {
+        says = weaker assemble-small.ended ρ (onSmall SmallAs) _ (λ κs a r e c. assembles-small c) always;
+        demand-three = weaker assemble-small.ended ρ (onSmall SmallAs) _ (λ κs a r e c. small-demand (c .bytes) (assembles-small c)) always;
       }
 
   pub legs-claims : Always assemble-legs.ended ρ (onLegs (AssembleAs inStructs)) → LegsClaims ρ
@@ -198,6 +218,11 @@ module _ (ρ : Routine) where
   assemble-worked =
       weaker assemble.ended ρ (onAssemble (AssembleAs inBytes)) (onAssemble (AssemblesWorked inBytes))
       (λ κs a r e c. worked-run inBytes (assembles even-bytes c))
+
+  pub small-worked : Always assemble-small.ended ρ (onSmall SmallAs) → Always assemble-small.ended ρ (onSmall SmallWorked)
+  small-worked =
+      weaker assemble-small.ended ρ (onSmall SmallAs) (onSmall SmallWorked)
+      (λ κs a r e c long l enough. (_, worked-run inBytes (assembles even-bytes (c .alike long l enough))))
 
   pub legs-worked : Always assemble-legs.ended ρ (onLegs (AssembleAs inStructs)) → Always assemble-legs.ended ρ (onLegs (AssemblesWorked inStructs))
   legs-worked =

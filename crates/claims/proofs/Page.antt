@@ -8,6 +8,7 @@ use native.Mathlib.Omega.{arith}
 use lib.Dec.{T}
 use lib.ListN.{length, getD, take, drop}
 use Rattle.base.specs.Sets.{In, NoBitFrom}
+use Rattle.base.specs.Sizes.{LongEnough}
 use Rattle.base.specs.Lists.{Each, Bytes}
 use Rattle.base.specs.Tables.{every, byRule}
 use Rattle.reversal.specs.Device.{Device, Proper, tabled}
@@ -70,13 +71,18 @@ use Rattle.runs.specs.RunBytes.{runBytes}
 use Rattle.runs.specs.Example as run-example
 use Rattle.runs.proofs.Example as run-cases
 use Rattle.assembly.specs.declared.Assembly.{Assembly}
-use Rattle.assembly.specs.Lent.{LegForm, inBytes, AllLent}
+use Rattle.assembly.specs.Lent.{LegForm, inBytes, Room, AllLent}
 use Rattle.assembly.specs.Assembles.{Assembles}
 use Rattle.assembly.specs.Demand.{Ready, Demand}
 use Rattle.assembly.specs.Cases.{Runs, LegRuns}
 use Rattle.assembly.proofs.Unique.{assembles-unique}
 use Rattle.assembly.proofs.DemandUnique.{SamePlan, demand-unique}
 use Rattle.assembly.proofs.Cases.{runs, leg-runs}
+use Rattle.assembly.specs.Small.{smallSizes, AssemblesSmall}
+use Rattle.assembly.proofs.Small.{small-unique}
+use Rattle.assembly.proofs.assemble_small as assemble-small
+use Rattle.assembly.proofs.assemble_small.Symbol.{routine as assemble-small-routine}
+use Rattle.assembly.proofs.assemble_small.Met.{met as assemble-small-met}
 use Rattle.assembly.proofs.assemble as assemble
 use Rattle.assembly.proofs.assemble.Symbol.{routine as assemble-routine}
 use Rattle.assembly.proofs.assemble.Met.{met as assemble-met}
@@ -126,6 +132,8 @@ use Rattle.planner.proofs.rollback_write.Symbol.{routine as exported-write-rout
 use Rattle.planner.proofs.rollback_write.Met.{met as exported-write-met}
 use Rattle.planner.proofs.rollback_assemble.Symbol.{routine as exported-assemble-routine}
 use Rattle.planner.proofs.rollback_assemble.Met.{met as exported-assemble-met}
+use Rattle.planner.proofs.rollback_assemble_small.Symbol.{routine as exported-small-routine}
+use Rattle.planner.proofs.rollback_assemble_small.Met.{met as exported-small-met}
 use Rattle.planner.proofs.rollback_assemble_legs as assemble-legs
 use Rattle.planner.proofs.rollback_assemble_legs.Symbol.{routine as assemble-legs-routine}
 use Rattle.planner.proofs.rollback_assemble_legs.Met.{met as assemble-legs-met}
@@ -142,11 +150,11 @@ use Rattle.report.proofs.Unique.{prints-unique}
 use Rattle.report.proofs.Cases.{examples}
 use Rattle.report.proofs.report.Symbol.{routine as report-routine}
 use Rattle.report.proofs.report.Met.{met as report-met}
-use Rattle.claims.specs.Claims.{onCheck, onForecast, onAssemble, onLegs, onLayOut, ReadClaims, CheckClaims, ForecastClaims, WriteClaims, AssembleClaims, LegsClaims, PaperClaims, LookupClaims, RuleClaims, RidgeTable, PortableTable, ReportClaims}
+use Rattle.claims.specs.Claims.{onCheck, onForecast, onAssemble, onSmall, onLegs, onLayOut, ReadClaims, CheckClaims, ForecastClaims, WriteClaims, AssembleClaims, SmallClaims, EqualForms, LegsClaims, PaperClaims, LookupClaims, RuleClaims, RidgeTable, PortableTable, ReportClaims}
 use Rattle.claims.specs.Always.{Always}
-use Rattle.claims.specs.Worked.{ChecksWorked, ForecastsWorked, AssemblesWorked, PaperWorked}
+use Rattle.claims.specs.Worked.{ChecksWorked, ForecastsWorked, AssemblesWorked, SmallWorked, PaperWorked}
 use Rattle.claims.proofs.Foreseen as foreseen
-use Rattle.claims.proofs.Calls.{read-claims, check-claims, forecast-claims, write-claims, assemble-claims, legs-claims, paper-claims, lookup-claims, rule-claims, ridge-table-claims, portable-table-claims, report-claims, check-worked, forecast-worked, assemble-worked, legs-worked, paper-worked}
+use Rattle.claims.proofs.Calls.{read-claims, check-claims, forecast-claims, write-claims, assemble-claims, small-claims, equal-claims, legs-claims, paper-claims, lookup-claims, rule-claims, ridge-table-claims, portable-table-claims, report-claims, check-worked, forecast-worked, assemble-worked, small-worked, legs-worked, paper-worked}
 
 -- ---- the meaning
 
@@ -258,6 +266,20 @@ exported-assembling = assemble-claims exported-assemble-routine (λ M. exported-
 pub assembling-legs : LegsClaims assemble-legs-routine
 assembling-legs = legs-claims assemble-legs-routine (λ M. assemble-legs-met)
 
+-- with a scratch of 64 masks in place of table, slots and weights; demand 3 is a field of these two as well
+pub assembling-small : SmallClaims assemble-small-routine
+assembling-small = small-claims assemble-small-routine (λ M. assemble-small-met)
+
+pub exported-assembling-small : SmallClaims exported-small-routine
+exported-assembling-small = small-claims exported-small-routine (λ M. exported-small-met)
+
+-- 02: "With buffers of the stated lengths, plan and legs lent alike, result, plan and legs equal the first form's for every book and run"
+pub equal-forms : EqualForms assemble-routine assemble-small-routine
+equal-forms = equal-claims assemble-routine assemble-small-routine (λ M. assemble-met) (λ M. assemble-small-met)
+
+pub exported-equal-forms : EqualForms exported-assemble-routine exported-small-routine
+exported-equal-forms = equal-claims exported-assemble-routine exported-small-routine (λ M. exported-assemble-met) (λ M. exported-small-met)
+
 -- on paper: demand 3 is a field of these two as well
 pub laying-out : PaperClaims lay-out-routine
 laying-out = paper-claims lay-out-routine (λ M. lay-out-met)
@@ -329,6 +351,12 @@ only-writing h x y = writes-unique h x y
 pub only-assembling : {E : Type 0} {form : LegForm E} {book run : List ℕ} {l : AllLent E} {r q : Assembly} {l′ l″ : AllLent E} → Bytes book
     → Assembles form book run l r l′ → Assembles form book run l q l″ → (r ≡ q) × (l′ ≡ l″)
 only-assembling h x y = assembles-unique h x y
+
+-- with a scratch: result, plan and legs, what lies past its 64 masks, and where a buffer is short all of it; elsewhere 02 frees the 64
+pub only-assembling-small : {book run scratch : List ℕ} {room : Room ℕ} {r q : Assembly} {scratch′ scratch″ : List ℕ} {room′ room″ : Room ℕ}
+    → Bytes book → AssemblesSmall book run scratch room r scratch′ room′ → AssemblesSmall book run scratch room q scratch″ room″
+    → (r ≡ q) × (room′ ≡ room″) × (drop 64 scratch′ ≡ drop 64 scratch″) × ((LongEnough (smallSizes scratch room) → ⊥) → scratch′ ≡ scratch″)
+only-assembling-small h x y = small-unique h x y
 
 pub only-laying-out : {book run : List ℕ} {l : AllLent ℕ} {page : List ℕ} {r q : Paged} {l′ l″ : AllLent ℕ} {page′ page″ : List ℕ} → Bytes book
     → Pages book run l page r l′ page′ → Pages book run l page q l″ page″ → (r ≡ q) × (l′ ≡ l″) × (page′ ≡ page″)
@@ -414,6 +442,9 @@ worked-forecast = forecast-worked forecast-routine (λ M. forecast-met)
 
 pub worked-assembling : Always assemble.ended assemble-routine (onAssemble (AssemblesWorked inBytes))
 worked-assembling = assemble-worked assemble-routine (λ M. assemble-met)
+
+pub worked-small : Always assemble-small.ended assemble-small-routine (onSmall SmallWorked)
+worked-small = small-worked assemble-small-routine (λ M. assemble-small-met)
 
 pub worked-legs : Always assemble-legs.ended assemble-legs-routine (onLegs (AssemblesWorked inStructs))
 worked-legs = legs-worked assemble-legs-routine (λ M. assemble-legs-met)

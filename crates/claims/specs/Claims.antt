@@ -27,10 +27,12 @@ use Rattle.writer.specs.declared.Writing.{Writing}
 use Rattle.writer.specs.Writes.{buffers, BookWritten, Writes}
 use Rattle.writer.proofs.write as write
 use Rattle.assembly.specs.declared.Assembly.{Assembly}
-use Rattle.assembly.specs.Lent.{inBytes, AllLent, allLent}
+use Rattle.assembly.specs.Lent.{inBytes, Room, lentRoom, AllLent, allLent, allSizes}
 use Rattle.assembly.specs.Assembles.{Assembles}
 use Rattle.assembly.specs.Demand.{Demand}
+use Rattle.assembly.specs.Small.{smallSizes, AssemblesSmall, SmallDemand}
 use Rattle.assembly.proofs.assemble as assemble
+use Rattle.assembly.proofs.assemble_small as assemble-small
 use Rattle.lookups.specs.declared.LookupResult.{LookupResult}
 use Rattle.lookups.specs.Rules.{DeviceRule, OutcomesOf}
 use Rattle.lookups.specs.Lookup.{EqualsRule, Looked}
@@ -87,6 +89,13 @@ abbrev pub onAssemble : Assemble ℕ → After assemble.ended
 onAssemble P κs (book, (run, (table, (slots, (weights, (plan, (legs, _))))))) r (_, (_, (table′, (slots′, (weights′, (plan′, (legs′, _))))))) =
     P (now book) (now run) (allLent (lent (now table) (now slots) (now weights)) (now plan) (now legs)) r
     (allLent (lent (now table′) (now slots′) (now weights′)) (now plan′) (now legs′))
+
+abbrev pub Small : Type 1
+Small = List ℕ → List ℕ → List ℕ → Room ℕ → Assembly → List ℕ → Room ℕ → Type 0
+
+abbrev pub onSmall : Small → After assemble-small.ended
+onSmall P κs (book, (run, (scratch, (plan, (legs, _))))) r (_, (_, (scratch′, (plan′, (legs′, _))))) =
+    P (now book) (now run) (now scratch) (lentRoom (now plan) (now legs)) r (now scratch′) (lentRoom (now plan′) (now legs′))
 
 abbrev pub onLegs : Assemble Leg → After assemble-legs.ended
 onLegs P κs (book, (run, (table, (slots, (weights, (plan, (legs, _))))))) r (_, (_, (table′, (slots′, (weights′, (plan′, (legs′, _))))))) =
@@ -220,6 +229,25 @@ pub record AssembleClaims (ρ : Routine) : Type 2 where
 pub record LegsClaims (ρ : Routine) : Type 2 where
   pub says : Always assemble-legs.ended ρ (onLegs (Assembles inStructs))
   pub demand-three : Always assemble-legs.ended ρ (onLegs (Demand inStructs))
+
+-- with a scratch of 64 masks in place of table, slots and weights
+pub record SmallClaims (ρ : Routine) : Type 2 where
+  -- 02: "the scratch ends free, but untouched on 1", and assembling's codes in their order
+  pub says : Always assemble-small.ended ρ (onSmall AssemblesSmall)
+  pub demand-three : Always assemble-small.ended ρ (onSmall SmallDemand)
+
+-- 02: "With buffers of the stated lengths, plan and legs lent alike, result, plan and legs equal the first form's for every book and run": of the two
+-- routines, ρ of the first form and σ of the small one. What both give is one function of the book, the run, and plan and legs as they are lent.
+pub record EqualForms (ρ σ : Routine) : Type 2 where
+  pub result : List ℕ → List ℕ → Room ℕ → Assembly
+  -- plan and legs at exit
+  pub left : List ℕ → List ℕ → Room ℕ → Room ℕ
+  pub first :
+      Always assemble.ended ρ (onAssemble (λ book run l r l′. LongEnough (allSizes inBytes l)
+      → (r ≡ result book run (l .room)) × (l′ .room ≡ left book run (l .room))))
+  pub small :
+      Always assemble-small.ended σ (onSmall (λ book run scratch room r scratch′ room′. LongEnough (smallSizes scratch room)
+      → (r ≡ result book run room) × (room′ ≡ left book run room)))
 
 -- on a page that is long enough, result and buffers are assembling's: whatever it gives for the same book, run and buffers. This follows from the first
 -- claim, since assembling has one answer only.

@@ -7,7 +7,7 @@ use Rattle.base.specs.Lists.{Written}
 use Rattle.base.specs.Sizes.{LongEnough}
 use Rattle.reversal.specs.Runs.{Run}
 use Rattle.reversal.specs.Answers.{Answer}
-use Rattle.book.specs.Lent.{sizes}
+use Rattle.book.specs.Lent.{Lent, sizes}
 use Rattle.book.specs.Example.{bytesQ}
 use Rattle.checker.specs.declared.Checking.{Checking}
 use Rattle.checker.specs.Cases.{Judges}
@@ -17,10 +17,11 @@ use Rattle.runs.specs.RunBytes.{runBytes}
 use Rattle.assembly.specs.declared.Assembly.{Assembly}
 use Rattle.assembly.specs.Lent.{LegForm, inBytes, AllLent, allSizes}
 use Rattle.assembly.specs.Assembles.{refusal, Left}
+use Rattle.assembly.specs.Small.{smallSizes, beside}
 use Rattle.assembly.specs.Cases.{BytesGive, BookRefused}
 use Rattle.paper.specs.Pages.{pageSizes}
 use Rattle.paper.specs.Cases.{PageGiven}
-use Rattle.claims.specs.Claims.{Check, Forecast, LayOut}
+use Rattle.claims.specs.Claims.{Check, Forecast, Small, LayOut}
 
 -- the books of checker/specs/Cases
 abbrev pub ChecksWorked : Check
@@ -36,6 +37,12 @@ pub record AssemblesWorked {E : Type 0} (form : LegForm E) (book run : List ℕ)
       → Left form a (l .room) r (l′ .room)
   pub refused : (code place : ℕ) → BookRefused form book code place → LongEnough (allSizes form l)
       → (r ≡ refusal code place) × (l′ .room ≡ l .room)
+
+-- the same with a scratch, as the first form in any table, slots and weights that are long enough
+abbrev pub SmallWorked : Small
+SmallWorked book run scratch room r scratch′ room′ =
+    LongEnough (smallSizes scratch room) → (l : Lent) → LongEnough (sizes l)
+    → (l′ : Lent) × AssemblesWorked inBytes book run (beside room l) r (beside room′ l′)
 
 -- the pages of paper/specs/Cases
 abbrev pub PaperWorked : LayOut

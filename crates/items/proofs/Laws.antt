@@ -1,24 +1,26 @@
 -- An item's record in a book's bytes: its fields, and the record after it. Assumes nothing.
-use mathlib.Core.Path.{_≡_, sym, ap, _∙_}
+use mathlib.Core.Path.{_≡_, refl, sym, ap, _∙_}
 use mathlib.Core.List.{List, _∷_, _++_, map, append-assoc}
 use Prim.Native.Nat.{ℕ, _+_, _^_, _≤_, _<_}
 use native.Mathlib.Numerals.{add-one}
 use native.Mathlib.Omega.{arith}
-use lib.ListN.{length, getD, take, drop, length-drop, length-append}
-use lib.Seq.{drop-cons, drop-drop, getD-drop, take-at, drop-at}
+use lib.ListN.{length, getD, take, drop, length-drop, length-append, List·getD-eq-default}
+use lib.Seq.{drop-cons, drop-drop, getD-drop, drop-at}
 use Rattle.base.specs.Sets.{NoBitFrom}
 use Rattle.base.proofs.Lists.{each-at}
 use Rattle.reversal.specs.Reversal.{Item, AllowedItem}
 use Rattle.reversal.specs.Chains.{absent, item}
 use Rattle.octets.specs.Le.{bytesLe}
-use Rattle.octets.specs.Parts.{le, leAt}
+use Rattle.octets.specs.Parts.{le, leAt, piece}
 use Rattle.octets.proofs.Le.{length-bytesLe}
-use Rattle.octets.proofs.Put.{piece-at}
-use Rattle.book.specs.Book.{Book, deviceOf, frame, framed, itemRec}
+use Rattle.octets.proofs.LeAt.{le-past}
+use Rattle.octets.proofs.Put.{piece-at, piece-take}
+use Rattle.book.specs.Book.{Book, AllowedBook, deviceOf, frame, framed, itemRec, bytesOf}
 use Rattle.book.proofs.Fields.{mask-fits}
 use Rattle.book.proofs.Bodies.{first-eight, past-eight, item-length}
 use Rattle.book.proofs.Scanning.{length-frame}
-use Rattle.items.specs.Items.{Begins, ItemStands, Fields, ItemAt, PartsOf, PartsAt}
+use Rattle.items.specs.declared.Parts.{Parts}
+use Rattle.items.specs.Items.{Begins, ItemStands, itemFrom, itemIn, heldIn, ItemAt, PartsOf, PartsAt, Placed}
 
 -- ---- item x and then t stand from `at` on
 module _ (s : List ℕ) (at : ℕ) (x : Item) (t : List ℕ) (e : drop at s ≡ frame (itemRec x) ++ t) where
@@ -69,6 +71,10 @@ module _ {s : List ℕ} {b : Book} {i at : ℕ} (h : ItemStands s b i at) where
   pub in-book : at + 22 ≤ length s
   in-book = omega (arith, inside s at (item (b .items) i) (framed (map itemRec (drop (i + 1) (b .items)))) stands)
 
+same-item : (x : Item) {forward reverse : List ℕ} {phi psi : ℕ} → forward ≡ x .forward → reverse ≡ x .reverse → phi ≡ x .phi → psi ≡ x .psi
+    → record { forward = forward; reverse = reverse; phi = phi; psi = psi } ≡ x
+same-item x f r p q = rw (f, r, p, q)
+
 module _ (s : List ℕ) (at k r : ℕ) (ek : k ≡ getD s (at + 4) 0) (er : r ≡ getD s (at + 5) 0) where
   module _ {b : Book} {i : ℕ} (h : ItemStands s b i at) where
     abbrev x : Item
@@ -98,37 +104,113 @@ module _ (s : List ℕ) (at k r : ℕ) (ek : k ≡ getD s (at + 4) 0) (er : r �
     next : Begins s b (i + 1) (at + 6 + k + r + 16)
     next = rest-at s at x t (stands h) (at + 6 + k + r) masks
 
-    -- what `item_at` and `parts_at` make of the bytes
-    fields : (phi psi : ℕ) → phi ≡ leAt 8 s (at + 6 + k + r) → psi ≡ leAt 8 s (at + 6 + k + r + 8)
-        → Fields s (record { k = k; r = r; forward = at + 6; reverse = at + 6 + k; phi = phi; psi = psi; next = at + 6 + k + r + 16 }) x
-    fields phi psi ep eq =
-        record {
-          k-is = hk;
-          r-is = hr;
-          phi-is = ep ∙ (ap (λ (l : List ℕ). le (take 8 l)) masks ∙ first-eight (x .phi) (bytesLe 8 (x .psi) ++ t) (small (x .phi) (allowed h .phi-states)));
-          psi-is = eq ∙ (ap (λ (l : List ℕ). le (take 8 l)) (psi-at s at x t (stands h) (at + 6 + k + r) masks) ∙ first-eight (x .psi) t (small (x .psi) (allowed h .psi-states)));
-          forward-is = ap (take k) forward ∙ take-at (x .forward) (x .reverse ++ tail s at x t (stands h)) k (sym hk);
-          reverse-is = ap (take r) reverse ∙ take-at (x .reverse) (tail s at x t (stands h)) r (sym hr);
-          forward-in = omega (arith, inside s at x t (stands h), hk, hr);
-          reverse-in = omega (arith, inside s at x t (stands h), hk, hr);
-        }
+    -- the item's parts, where the counts say
+    forward-is : piece k s (at + 6) ≡ x .forward
+    forward-is = piece-at s (at + 6) k (x .forward) _ forward (sym hk)
 
+    reverse-is : piece r s (at + 6 + k) ≡ x .reverse
+    reverse-is = piece-at s (at + 6 + k) r (x .reverse) _ reverse (sym hr)
+
+    phi-is : leAt 8 s (at + 6 + k + r) ≡ x .phi
+    phi-is = ap (λ (l : List ℕ). le (take 8 l)) masks ∙ first-eight (x .phi) (bytesLe 8 (x .psi) ++ t) (small (x .phi) (allowed h .phi-states))
+
+    psi-is : leAt 8 s (at + 6 + k + r + 8) ≡ x .psi
+    psi-is =
+        ap (λ (l : List ℕ). le (take 8 l)) (psi-at s at x t (stands h) (at + 6 + k + r) masks)
+        ∙ first-eight (x .psi) t (small (x .psi) (allowed h .psi-states))
+
+    whole : itemFrom s (at + 6) k r ≡ x
+    whole = same-item x forward-is reverse-is phi-is psi-is
+
+    -- what `parts_at` makes of the bytes
     parts : PartsOf s (record { k = k; r = r; forward = at + 6; reverse = at + 6 + k; masks = at + 6 + k + r; next = at + 6 + k + r + 16 }) x
     parts =
         let two = bytesLe 8 (x .phi) ++ bytesLe 8 (x .psi) in
         record {
           k-is = hk;
           r-is = hr;
-          forward-is = piece-at s (at + 6) k (x .forward) _ forward (sym hk);
-          reverse-is = piece-at s (at + 6 + k) r (x .reverse) _ reverse (sym hr);
+          forward-is = forward-is;
+          reverse-is = reverse-is;
           masks-are =
               piece-at s (at + 6 + k + r) 16 two t (masks ∙ sym (append-assoc (bytesLe 8 (x .phi)) (bytesLe 8 (x .psi)) t))
               (omega (arith, length-append (bytesLe 8 (x .phi)) (bytesLe 8 (x .psi)), length-bytesLe 8 (x .phi), length-bytesLe 8 (x .psi)));
+          forward-in = omega (arith, inside s at x t (stands h), hk, hr);
+          reverse-in = omega (arith, inside s at x t (stands h), hk, hr);
         }
 
-  pub read-item : k < 256 → r < 256 → (phi psi : ℕ) → phi ≡ leAt 8 s (at + 6 + k + r) → psi ≡ leAt 8 s (at + 6 + k + r + 8)
-      → ItemAt s at (record { k = k; r = r; forward = at + 6; reverse = at + 6 + k; phi = phi; psi = psi; next = at + 6 + k + r + 16 })
-  read-item lk lr phi psi ep eq = record { k-byte = lk; r-byte = lr; past = λ l. omega arith; fields = λ h. fields h phi psi ep eq; next = next }
+  held : heldIn s (record { k = k; r = r; forward = at + 6; reverse = at + 6 + k; masks = at + 6 + k + r; next = at + 6 + k + r + 16 }) ≡ itemIn s at
+  unfolding itemIn
+  held = rw (ek, er)
 
-  pub read-parts : PartsAt s at (record { k = k; r = r; forward = at + 6; reverse = at + 6 + k; masks = at + 6 + k + r; next = at + 6 + k + r + 16 })
-  read-parts = record { past = λ l. omega arith; parts = parts; next = next }
+  pub read-parts : k < 256 → r < 256
+      → PartsAt s at (record { k = k; r = r; forward = at + 6; reverse = at + 6 + k; masks = at + 6 + k + r; next = at + 6 + k + r + 16 })
+  read-parts lk lr =
+      record { k-byte = lk; r-byte = lr; past = λ l. omega arith; held = held; inside = (omega arith, omega arith); parts = parts; next = next }
+
+-- the item that stands there is the book's
+pub item-is : {s : List ℕ} {b : Book} {i at : ℕ} → ItemStands s b i at → itemIn s at ≡ item (b .items) i
+unfolding itemIn
+item-is {s} {b} {i} {at} h = whole s at (getD s (at + 4) 0) (getD s (at + 5) 0) refl refl h
+
+-- what `item_at` makes of its parts
+pub read-item : {s : List ℕ} {at : ℕ} {p : Parts} → PartsAt s at p → (phi psi : ℕ) → phi ≡ leAt 8 s (p .masks) → psi ≡ leAt 8 s (p .masks + 8)
+    → ItemAt s at (record { k = p .k; r = p .r; forward = p .forward; reverse = p .reverse; phi = phi; psi = psi; next = p .next })
+read-item {s} {at} {p} c phi psi ep eq =
+    record {
+      k-byte = c .k-byte;
+      r-byte = c .r-byte;
+      past = c .past;
+      fields =
+          λ h.
+          let q = c .parts h in
+          let e = c .held ∙ item-is h in
+          record {
+            k-is = q .k-is;
+            r-is = q .r-is;
+            phi-is = ep ∙ ap (λ (x : Item). x .phi) e;
+            psi-is = eq ∙ ap (λ (x : Item). x .psi) e;
+            forward-is = sym (piece-take (p .k) s (p .forward) (q .forward-in)) ∙ q .forward-is;
+            reverse-is = sym (piece-take (p .r) s (p .reverse) (q .reverse-in)) ∙ q .reverse-is;
+            forward-in = q .forward-in;
+            reverse-in = q .reverse-in;
+          };
+      next = c .next;
+    }
+
+-- and the items at a book's places are its items
+pub placed-items : {s places : List ℕ} → Placed s places → (b : Book) → AllowedBook b → bytesOf b ≡ s
+    → (i : ℕ) → i < length (b .items) → itemIn s (getD places i 0) ≡ item (b .items) i
+placed-items p b a e i h = item-is (record { allowed = a; bytes = e; known = h; begins = p .begins b a e i h })
+
+-- ---- past the end
+abbrev none : List ℕ → Parts
+none s = record { k = 0; r = 0; forward = 0; reverse = 0; masks = length s; next = 0 }
+
+none-from : (s : List ℕ) (p k r : ℕ) → length s ≤ p → k ≡ 0 → r ≡ 0 → heldIn s (none s) ≡ itemFrom s p k r
+unfolding piece
+none-from s p k r l ek er =
+    rw (
+      ek,
+      er,
+      ← le-past 8 s (length s) (omega arith),
+      ← le-past 8 s (length s + 8) (omega arith),
+      ← le-past 8 s (p + 0 + 0) (omega arith),
+      ← le-past 8 s (p + 0 + 0 + 8) (omega arith),
+    )
+
+pub parts-none : (s : List ℕ) (at : ℕ) → length s ≤ at → PartsAt s at (none s)
+unfolding itemIn
+parts-none s at l =
+    let k-past : length s ≤ at + 4 = omega arith in
+    let r-past : length s ≤ at + 5 = omega arith in
+    record {
+      k-byte = omega arith;
+      r-byte = omega arith;
+      past = λ h. absurd (omega arith);
+      held =
+          none-from s (at + 6) (getD s (at + 4) 0) (getD s (at + 5) 0) (omega arith)
+          (List·getD-eq-default s 0 k-past) (List·getD-eq-default s 0 r-past);
+      inside = (omega arith, omega arith);
+      parts = λ h. absurd (omega (arith, in-book h));
+      next = λ h. absurd (omega (arith, in-book h));
+    }

@@ -1,16 +1,21 @@
 -- The ways to the first item and from item to item: what is left of a book's records stands where the walk is. Assumes nothing.
-use mathlib.Core.Path.{_≡_, ap, _∙_}
+use mathlib.Core.Path.{_≡_, refl, ap, _∙_}
+use mathlib.Core.Bool.{Bool, true, false}
 use mathlib.Core.List.{List, [], _∷_, _++_, map}
-use Prim.Native.Nat.{ℕ, suc, _+_, _≤_, _<_}
+use Prim.Native.Nat.{ℕ, suc, _+_, _^_, _≤_, _<_}
 use native.Mathlib.Omega.{arith}
 use native.Mathlib.Decide.{decLt}
-use lib.ListN.{length, drop, length-drop, length-append, drop-of-length-le}
-use lib.Seq.{drop-drop, drop-cons}
+use borrow.Author.Tests.{eqb-true, eqb-false}
+use lib.Dec.{eqb}
+use lib.ListN.{length, getD, set, drop, length-drop, length-append, drop-of-length-le}
+use lib.Seq.{drop-drop, drop-cons, getD-drop, getD-set-same, getD-set-other}
 use Rattle.reversal.specs.Reversal.{Item}
 use Rattle.reversal.specs.Chains.{absent, item}
 use Rattle.octets.specs.Le.{bytesLe}
 use Rattle.octets.specs.Parts.{le, leAt}
 use Rattle.book.specs.Book.{Move, Book, AllowedBook, Rec, frame, framed, moveRec, itemRec, bytesOf}
+use Rattle.octets.proofs.Le.{length-bytesLe}
+use Rattle.book.proofs.Bodies.{first-eight}
 use Rattle.book.proofs.Scanning.{length-frame}
 use Rattle.items.specs.Items.{MovesBegin, Begins, ItemStands}
 
@@ -27,10 +32,35 @@ module _ (s : List ℕ) (at : ℕ) where
   unfolding frame bytesLe
   past-move x t e = rw (← drop-drop 14 at s, e)
 
+-- ---- a move's record
+module _ (s : List ℕ) (at : ℕ) (x : Move) (t : List ℕ) (e : drop at s ≡ frame (moveRec x) ++ t) where
+  pub state-at : getD s (at + 4) 0 ≡ x .state
+  unfolding frame bytesLe
+  state-at = rw (← getD-drop at s 4 0, e)
+
+  pub command-at : getD s (at + 5) 0 ≡ x .command
+  unfolding frame bytesLe
+  command-at = rw (← getD-drop at s 5 0, e)
+
+  pub mask-at : x .mask < 256 ^ 8 → leAt 8 s (at + 6) ≡ x .mask
+  unfolding frame bytesLe
+  mask-at h = rw (← drop-drop 6 at s, e) (first-eight (x .mask) t h)
+
+  pub move-inside : at + 14 ≤ length s
+  move-inside =
+      omega (arith, length-drop at s, ap length e, length-append (frame (moveRec x)) t, length-frame (moveRec x), length-bytesLe 8 (x .mask))
+
 pub no-move : (items : List Item) (s : List ℕ) (at : ℕ) → drop at s ≡ framed (map itemRec items) → leAt 2 s (at + 2) ≡ 2 → ⊥
 unfolding bytesLe
 no-move [] s at e k = omega (arith, no-kind s at e)
 no-move (x ∷ xs) s at e k = omega (arith, kind-at s at (itemRec x) (framed (map itemRec xs)) e)
+
+-- where no move stands, none is left
+pub none-left : (left : List Move) (items : List Item) (s : List ℕ) (at : ℕ) → drop at s ≡ framed (map moveRec left ++ map itemRec items)
+    → (leAt 2 s (at + 2) ≡ 2 → ⊥) → left ≡ []
+unfolding bytesLe
+none-left [] items s at e k = refl
+none-left (x ∷ xs) items s at e k = absurd (k (kind-at s at (moveRec x) (framed (map moveRec xs ++ map itemRec items)) e))
 
 -- a number that is read and is not 0 does not lie past the end
 pub inside : (s : List ℕ) (p x : ℕ) → x ≡ leAt 2 s p → x ≡ 2 → p < length s
@@ -60,12 +90,7 @@ module _ {s : List ℕ} {b : Book} {at : ℕ} (g : Before s b at) where
       go (x ∷ xs) r = record { left = xs; rest = past-move s at x (framed (map moveRec xs ++ map itemRec (b .items))) r }
 
   pub at-first : (leAt 2 s (at + 2) ≡ 2 → ⊥) → Begins s b 0 at
-  unfolding bytesLe
-  at-first k = go (g .left) (g .rest)
-    where
-      go : (left : List Move) → drop at s ≡ framed (map moveRec left ++ map itemRec (b .items)) → Begins s b 0 at
-      go [] r = r
-      go (x ∷ xs) r = absurd (k (kind-at s at (moveRec x) (framed (map moveRec xs ++ map itemRec (b .items))) r))
+  at-first k = rw (none-left (g .left) (b .items) s at (g .rest) k) at (g .rest)
 
 -- ---- from item to item: item i stands where the walk is
 module _ {s : List ℕ} {b : Book} {i at : ℕ} (a : AllowedBook b) (e : bytesOf b ≡ s) (known : i ≤ length (b .items)) (here : Begins s b i at) where
@@ -81,9 +106,6 @@ module _ {s : List ℕ} {b : Book} {i at : ℕ} (a : AllowedBook b) (e : bytesOf
           let f : length (drop at s) ≡ 0 = ap length here ∙ ap (λ (l : List Item). length (framed (map itemRec l))) none in
           absurd (omega (arith, length-drop at s))
 
-  pub no-more : at < length s → 64 ≤ i → ⊥
-  no-more h l = omega (arith, a .few, one-more h .known)
-
   pub all-passed : length s ≤ at → i ≡ length (b .items)
   all-passed h = go (decLt i (length (b .items)))
     where
@@ -95,3 +117,34 @@ module _ {s : List ℕ} {b : Book} {i at : ℕ} (a : AllowedBook b) (e : bytesOf
           let f : length (drop at s) ≡ length (frame (itemRec x) ++ t) =
           ap length (here ∙ ap (λ (l : List Item). framed (map itemRec l)) (drop-cons (b .items) i absent l)) in
           absurd (omega (arith, length-drop at s, length-append (frame (itemRec x)) t, length-frame (itemRec x)))
+
+-- ---- the places of the items passed: i of them, and the next record at `at`
+pub record Passed (s : List ℕ) (b : Book) (places : List ℕ) (i at : ℕ) : Type 0 where
+  pub known : i ≤ length (b .items)
+  pub here : Begins s b i at
+  pub before : (j : ℕ) → j < i → Begins s b j (getD places j 0)
+
+pub none-passed : {s : List ℕ} {b : Book} {places : List ℕ} {at : ℕ} → Begins s b 0 at → Passed s b places 0 at
+none-passed e = record { known = omega arith; here = e; before = λ j h. absurd (omega arith) }
+
+module _ {s : List ℕ} {b : Book} {places : List ℕ} {i at : ℕ} (a : AllowedBook b) (e : bytesOf b ≡ s) (w : Passed s b places i at) where
+  pub one-passed : {next : ℕ} → (ItemStands s b i at → Begins s b (i + 1) next) → at < length s → i < length places
+      → Passed s b (set places i at) (i + 1) next
+  one-passed f h l =
+      let x = one-more a e (w .known) (w .here) h in
+      record { known = omega (arith, x .known); here = f x; before = λ j k. go j k (eqb j i) refl }
+    where
+      go : (j : ℕ) → j < i + 1 → (t : Bool) → eqb j i ≡ t → Begins s b j (getD (set places i at) j 0)
+      go j k true q =
+          let z : j ≡ i = eqb-true j i q in
+          rw z (ap (λ (y : ℕ). drop y s) (getD-set-same places i at 0 l) ∙ w .here)
+      go j k false q =
+          let n = eqb-false j i q in
+          ap (λ (y : ℕ). drop y s) (getD-set-other places i j at 0 n) ∙ w .before j (omega arith)
+
+  -- the end of the book, or 64 items
+  pub ends-passed : length s ≤ at → (j : ℕ) → j < length (b .items) → Begins s b j (getD places j 0)
+  ends-passed h j k = w .before j (omega (arith, all-passed a e (w .known) (w .here) h))
+
+  pub most-passed : 64 ≤ i → (j : ℕ) → j < length (b .items) → Begins s b j (getD places j 0)
+  most-passed h j k = w .before j (omega (arith, a .few))

@@ -6,8 +6,8 @@ use lib.ListN.{length, getD, take, drop}
 use Rattle.reversal.specs.Reversal.{Item}
 use Rattle.reversal.specs.Chains.{item}
 use Rattle.octets.specs.Le.{bytesLe}
+use Rattle.octets.specs.Parts.{leAt, piece}
 use Rattle.book.specs.Book.{Book, AllowedBook, bytesOf, framed, moveRec, itemRec}
-use Rattle.octets.specs.Parts.{piece}
 use Rattle.items.specs.declared.Place.{Place}
 use Rattle.items.specs.declared.Parts.{Parts}
 
@@ -33,6 +33,31 @@ pub record ItemStands (s : List ℕ) (b : Book) (i at : ℕ) : Type 0 where
   pub bytes : bytesOf b ≡ s
   pub known : i < length (b .items)
   pub begins : Begins s b i at
+
+-- ---- the item at a place, for any bytes
+-- with k forward and r reverse commands, which stand from p on, and the masks after them
+abbrev pub itemFrom : List ℕ → ℕ → ℕ → ℕ → Item
+itemFrom s p k r =
+    record {
+      forward = piece k s p;
+      reverse = piece r s (p + k);
+      phi = leAt 8 s (p + k + r);
+      psi = leAt 8 s (p + k + r + 8);
+    }
+
+-- with the counts of the record that begins at `at`
+unfoldable pub itemIn : List ℕ → ℕ → Item
+itemIn s at = itemFrom s (at + 6) (getD s (at + 4) 0) (getD s (at + 5) 0)
+
+-- with its parts where they are said to stand
+abbrev pub heldIn : List ℕ → Parts → Item
+heldIn s p =
+    record {
+      forward = piece (p .k) s (p .forward);
+      reverse = piece (p .r) s (p .reverse);
+      phi = leAt 8 s (p .masks);
+      psi = leAt 8 s (p .masks + 8);
+    }
 
 -- what is read where item x stands
 pub record Fields (s : List ℕ) (p : Place) (x : Item) : Type 0 where
@@ -60,13 +85,24 @@ pub record PartsOf (s : List ℕ) (p : Parts) (x : Item) : Type 0 where
   pub forward-is : piece (p .k) s (p .forward) ≡ x .forward
   pub reverse-is : piece (p .r) s (p .reverse) ≡ x .reverse
   pub masks-are : piece 16 s (p .masks) ≡ bytesLe 8 (x .phi) ++ bytesLe 8 (x .psi)
+  pub forward-in : p .forward + p .k ≤ length s
+  pub reverse-in : p .reverse + p .r ≤ length s
 
--- the contract of `parts_at`
+-- the contract of `parts_at`; the commands stand before `next`
 pub record PartsAt (s : List ℕ) (at : ℕ) (p : Parts) : Type 0 where
+  pub k-byte : p .k < 256
+  pub r-byte : p .r < 256
   pub past : at < length s → at < p .next
+  pub held : heldIn s p ≡ itemIn s at
+  pub inside : (p .forward + p .k ≤ p .next) × (p .reverse + p .r ≤ p .next)
   pub parts : {b : Book} {i : ℕ} → ItemStands s b i at → PartsOf s p (item (b .items) i)
   pub next : {b : Book} {i : ℕ} → ItemStands s b i at → Begins s b (i + 1) (p .next)
 
 -- the contract of `first_item`
 pub record FirstItem (s : List ℕ) (r : ℕ) : Type 0 where
   pub begins : (b : Book) → AllowedBook b → bytesOf b ≡ s → Begins s b 0 r
+
+-- the contract of `places`
+pub record Placed (s places : List ℕ) : Type 0 where
+  pub size : length places ≡ 64
+  pub begins : (b : Book) → AllowedBook b → bytesOf b ≡ s → (i : ℕ) → i < length (b .items) → Begins s b i (getD places i 0)

@@ -1,53 +1,11 @@
 // The weights and items of a book, read from its bytes: where the moves and each item's record begin, and what the records of weights and items
 // hold. This is the one module that knows the layout of these records for reading them. Every call takes any bytes; its promise speaks of every
 // allowed book whose bytes these are.
+ghost use mathlib.Core.Path.{_≡_};
 ghost use Prim.Native.Nat.{_<_, _≤_};
-ghost use Rattle.items.specs.Items.{WeightAt, FirstMove, ItemAt, PartsAt, FirstItem};
+ghost use Rattle.items.specs.Items.{WeightAt, FirstMove, ItemAt, heldIn, PartsAt, FirstItem, Placed};
 
-// The item whose record begins at a place: its counts and masks, where its commands stand each way, and the place past it.
-pub struct Place {
-    pub k: usize,
-    pub r: usize,
-    pub forward: usize,
-    pub reverse: usize,
-    pub phi: u64,
-    pub psi: u64,
-    pub next: usize,
-}
-
-pub fn item_at(book: &[u8], at: usize) -> Place
-    ensures { λ p. ⌜ ItemAt (now (book .entry)) at p ⌝ }
-{
-    if book.len() <= at {
-        return Place {
-            k: 0,
-            r: 0,
-            forward: 0,
-            reverse: 0,
-            phi: 0,
-            psi: 0,
-            next: 0,
-        };
-    }
-    let k = octets::byte_at(book, at + 4) as usize;
-    let r = octets::byte_at(book, at + 5) as usize;
-    let forward = at + 6;
-    let reverse = forward + k;
-    let masks = reverse + r;
-    let phi = octets::u64_at(book, masks);
-    let psi = octets::u64_at(book, masks + 8);
-    Place {
-        k: k,
-        r: r,
-        forward: forward,
-        reverse: reverse,
-        phi: phi,
-        psi: psi,
-        next: masks + 16,
-    }
-}
-
-// The same with the place of its two masks, for who copies its bytes.
+// Where the item stands whose record begins at a place: its counts, the places of its commands each way and of its two masks, and the place past it.
 pub struct Parts {
     pub k: usize,
     pub r: usize,
@@ -60,13 +18,14 @@ pub struct Parts {
 pub fn parts_at(book: &[u8], at: usize) -> Parts
     ensures { λ p. ⌜ PartsAt (now (book .entry)) at p ⌝ }
 {
+    // Past the end there is nothing: no command, and masks of 0.
     if book.len() <= at {
         return Parts {
             k: 0,
             r: 0,
             forward: 0,
             reverse: 0,
-            masks: 0,
+            masks: book.len(),
             next: 0,
         };
     }
@@ -83,6 +42,51 @@ pub fn parts_at(book: &[u8], at: usize) -> Parts
         reverse: reverse,
         masks: masks,
         next: next,
+    }
+}
+
+// The item's phi.
+pub fn phi(book: &[u8], item: Parts) -> u64
+    ensures { λ r. ⌜ r ≡ heldIn (now (book .entry)) item .phi ⌝ }
+{
+    octets::u64_at(book, item.masks)
+}
+
+// Its psi.
+pub fn psi(book: &[u8], item: Parts) -> u64
+    ensures { λ r. ⌜ r ≡ heldIn (now (book .entry)) item .psi ⌝ }
+{
+    if book.len() <= item.masks {
+        return 0;
+    }
+    octets::u64_at(book, item.masks + 8)
+}
+
+// The same with its masks in the place of where they stand.
+pub struct Place {
+    pub k: usize,
+    pub r: usize,
+    pub forward: usize,
+    pub reverse: usize,
+    pub phi: u64,
+    pub psi: u64,
+    pub next: usize,
+}
+
+pub fn item_at(book: &[u8], at: usize) -> Place
+    ensures { λ p. ⌜ ItemAt (now (book .entry)) at p ⌝ }
+{
+    let item = parts_at(book, at);
+    let phi = phi(book, item);
+    let psi = psi(book, item);
+    Place {
+        k: item.k,
+        r: item.r,
+        forward: item.forward,
+        reverse: item.reverse,
+        phi: phi,
+        psi: psi,
+        next: item.next,
     }
 }
 
@@ -117,4 +121,24 @@ pub fn first_item(book: &[u8]) -> usize
         at = at + 14;
     }
     at
+}
+
+// Where each item's record begins, 0 from the number of items on. No book is so long that a place would take more than two bytes.
+pub fn places(book: &[u8]) -> [u16; 64]
+    ensures { λ r. ⌜ Placed (now (book .entry)) r ⌝ }
+{
+    let mut places = [0u16; 64];
+    if 65535 < book.len() {
+        return places;
+    }
+    let mut at = first_item(book);
+    for i in 0..64 {
+        if book.len() <= at {
+            return places;
+        }
+        places[i] = at as u16;
+        let item = parts_at(book, at);
+        at = item.next;
+    }
+    places
 }

@@ -1,13 +1,17 @@
 -- A number read byte by byte at a place. Assumes nothing.
 use mathlib.Core.Path.{_≡_, refl, _∙_}
+use mathlib.Core.Bool.{false}
 use mathlib.Core.List.{List, [], _∷_}
 use Prim.Native.Nat.{ℕ, zero, suc, _+_, _*_, _≤_}
 use native.Mathlib.Nat.{add-suc}
 use native.Mathlib.Numerals.{add-one}
 use native.Mathlib.Omega.{arith}
+use borrow.Author.Tests.{le-leb}
+use lib.Dec.{leb}
 use lib.ListN.{length, getD, drop-of-length-le}
 use lib.Seq.{take-nil}
-use Rattle.octets.specs.Parts.{leAt}
+use Rattle.base.specs.Tests.{pick}
+use Rattle.octets.specs.Parts.{leAt, wholeAt}
 
 -- one byte more, at any place, also past the end
 le-suc : (n : ℕ) (s : List ℕ) (at : ℕ) → leAt (suc n) s at ≡ getD s at 0 + 256 * leAt n s (suc at)
@@ -46,3 +50,12 @@ module _ (s : List ℕ) (at : ℕ) where
 -- past the end there is nothing
 pub le-past : (n : ℕ) (s : List ℕ) (at : ℕ) → length s ≤ at → 0 ≡ leAt n s at
 le-past n s at h = rw (drop-of-length-le s h, take-nil)
+
+-- eight bytes that are all there, or not
+pub whole-in : (s : List ℕ) (at : ℕ) → at + 8 ≤ length s → wholeAt s at ≡ leAt 8 s at
+unfolding wholeAt pick
+whole-in s at h = rw (le-leb (at + 8) (length s) h)
+
+pub whole-out : (s : List ℕ) (at : ℕ) → leb (at + 8) (length s) ≡ false → wholeAt s at ≡ 0
+unfolding wholeAt pick
+whole-out s at e = rw e

@@ -6,7 +6,7 @@ ghost use lib.Dec.{leb};
 ghost use lib.ListN.{length, getD, replicate};
 ghost use lib.Seq.{sets};
 ghost use Rattle.octets.specs.Le.{bytesLe};
-ghost use Rattle.octets.specs.Parts.{leAt, piece};
+ghost use Rattle.octets.specs.Parts.{leAt, wholeAt, piece};
 
 // The byte at i, or 0 past the end.
 pub fn byte_at(s: &[u8], i: usize) -> u64
@@ -113,6 +113,16 @@ pub fn has_room(len: usize, at: usize, n: usize) -> bool
         return false;
     }
     n <= len - at
+}
+
+// The number in eight bytes, or 0 where they are not all there.
+pub fn whole_at(s: &[u8], at: usize) -> u64
+    ensures { λ r. ⌜ r ≡ wholeAt (now (s .entry)) at ⌝ }
+{
+    if !has_room(s.len(), at, 8) {
+        return 0;
+    }
+    eight_at(s, at)
 }
 
 // Stores the n lowest bytes of v, lowest first, from `at` on, as far as there is room.

@@ -3,20 +3,6 @@
 // A case is a byte that says how buffers are lent; the book's length and the run's, two bytes each; the book; the run.
 use libc::STDOUT_FILENO;
 use paper::Paged;
-ghost use Prim.Native.Nat.{_≤_};
-
-// How much of a buffer that is five longer than stated is lent: all of it in a case of kind 6, one less than stated in one of kind `short`.
-fn size(whole: usize, kind: u64, short: u64) -> usize
-    ensures { λ r. ⌜ r ≤ whole ⌝ }
-{
-    if kind == 6 {
-        return whole;
-    }
-    if whole < 6 {
-        return 0;
-    }
-    if kind == short { whole - 6 } else { whole - 5 }
-}
 
 fn print_answer(r: Paged, page: &[u8]) {
     let a = r.assembly;
@@ -40,12 +26,12 @@ fn lend(
     legs: &mut [u8],
     page: &mut [u8],
 ) {
-    let page_size = size(page.len(), kind, 1);
-    let plan_size = size(plan.len(), kind, 2);
-    let legs_size = size(legs.len(), kind, 3);
-    let table_size = size(table.len(), kind, 4);
-    let slots_size = size(slots.len(), kind, 5);
-    let weights_size = size(weights.len(), kind, 7);
+    let page_size = vectors::size(page.len(), kind, 1, 6);
+    let plan_size = vectors::size(plan.len(), kind, 2, 6);
+    let legs_size = vectors::size(legs.len(), kind, 3, 6);
+    let table_size = vectors::size(table.len(), kind, 4, 6);
+    let slots_size = vectors::size(slots.len(), kind, 5, 6);
+    let weights_size = vectors::size(weights.len(), kind, 7, 6);
     let r = paper::lay_out(
         book,
         run,

@@ -16,8 +16,8 @@ ghost use Rattle.reader.specs.Contract.{ReadAs};
 ghost use Rattle.checker.specs.Contract.{CheckAs};
 ghost use Rattle.forecast.specs.Contract.{ForecastAs};
 ghost use Rattle.writer.specs.Contract.{WriteAs};
-ghost use Rattle.assembly.specs.Contract.{AssembleAs};
-ghost use Rattle.assembly.specs.Lent.{inBytes, allLent};
+ghost use Rattle.assembly.specs.Contract.{AssembleAs, SmallAs};
+ghost use Rattle.assembly.specs.Lent.{inBytes, lentRoom, allLent};
 ghost use Rattle.paper.specs.Contract.{PageAs};
 ghost use Rattle.planner.specs.Structs.{inStructs};
 ghost use Rattle.planner.specs.Whole.{legAt, structsIn, WholeAs};
@@ -72,6 +72,20 @@ pub extern "C" fn rollback_assemble(
         (allLent (lent (now (table .exit)) (now (slots .exit)) (now (weights .exit))) (now (plan .exit)) (now (legs .exit))) ⌝ }
 {
     assembly::assemble(book, run, table, slots, weights, plan, legs)
+}
+
+#[no_mangle]
+pub extern "C" fn rollback_assemble_small(
+    book: &[u8],
+    run: &[u8],
+    scratch: &mut [u64],
+    plan: &mut [u8],
+    legs: &mut [u8],
+) -> Assembly
+    ensures { λ r. ⌜ SmallAs (now (book .entry)) (now (run .entry)) (now (scratch .entry)) (lentRoom (now (plan .entry)) (now (legs .entry))) r
+        (now (scratch .exit)) (lentRoom (now (plan .exit)) (now (legs .exit))) ⌝ }
+{
+    assembly::assemble_small(book, run, scratch, plan, legs)
 }
 
 #[no_mangle]

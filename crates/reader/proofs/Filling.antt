@@ -1,11 +1,11 @@
 -- What is stored is the book's table, slots and weights: what is left of its moves, items and weights gives the whole. Assumes nothing.
 use mathlib.Core.Path.{_≡_, refl, sym, ap, ap₂, _∙_}
 use mathlib.Core.List.{List, [], _∷_, _++_, map, append-nil}
-use Prim.Native.Nat.{ℕ, _+_, _*_, _^_, _≤_, _<_}
+use Prim.Native.Nat.{ℕ, _+_, _*_, _≤_, _<_}
 use native.Mathlib.Numerals.{add-one}
 use native.Mathlib.Omega.{arith}
 use lib.ListN.{length, getD, set, drop, drop-of-length-le}
-use lib.Seq.{sets, drop-drop, drop-cons, getD-drop}
+use lib.Seq.{sets, drop-cons}
 use Rattle.base.specs.Lists.{Each}
 use Rattle.octets.specs.Le.{bytesLe}
 use Rattle.octets.specs.Parts.{leAt}
@@ -21,14 +21,13 @@ use Rattle.book.specs.Parse.Parsed.{Ok, Refused}
 use Rattle.book.specs.Lent.{slotOf, slotsBytes}
 use Rattle.book.specs.Buffers.{zeroed, filled, tableOf, slotsOf, weightsLeft}
 use Rattle.book.proofs.Fields.{mask-fits}
-use Rattle.book.proofs.Bodies.{first-eight}
 use Rattle.book.proofs.Cut.{onto}
 use Rattle.book.proofs.Scanning.{cut-book, stateOf}
 use Rattle.book.proofs.Reading.{scan-whole, parse-fine}
 use Rattle.book.proofs.Slots.{length-slot}
 use Rattle.items.specs.Items.{MovesBegin, Begins, ItemStands}
 use Rattle.items.proofs.Laws.{allowed}
-use Rattle.items.proofs.Walk.{kind-at, past-move, no-move, one-more, all-passed}
+use Rattle.items.proofs.Walk.{past-move, state-at, command-at, mask-at, no-move, none-left, one-more, all-passed}
 use Rattle.reader.specs.Reads.{done}
 use Rattle.reader.specs.Filling.{moveStored}
 
@@ -41,20 +40,6 @@ module _ (s : List ℕ) (b : Book) (e : bytesOf b ≡ s) where
   pub m-at : getD s 5 0 ≡ b .m
   unfolding frame bytesLe
   m-at = rw (← e)
-
--- ---- a move
-module _ (s : List ℕ) (at : ℕ) (x : Move) (t : List ℕ) (e : drop at s ≡ frame (moveRec x) ++ t) where
-  state-at : getD s (at + 4) 0 ≡ x .state
-  unfolding frame bytesLe
-  state-at = rw (← getD-drop at s 4 0, e)
-
-  command-at : getD s (at + 5) 0 ≡ x .command
-  unfolding frame bytesLe
-  command-at = rw (← getD-drop at s 5 0, e)
-
-  mask-at : x .mask < 256 ^ 8 → leAt 8 s (at + 6) ≡ x .mask
-  unfolding frame bytesLe
-  mask-at h = rw (← drop-drop 6 at s, e) (first-eight (x .mask) t h)
 
 -- ---- the pass over the moves
 pub record Entering (s : List ℕ) (b : Book) (whole : List ℕ) (at : ℕ) (table : List ℕ) : Type 0 where
@@ -88,20 +73,12 @@ module _ {s : List ℕ} {b : Book} {whole : List ℕ} {at : ℕ} {table : List �
           }
 
   module _ (k : leAt 2 s (at + 2) ≡ 2 → ⊥) where
-    none-left : g .left ≡ []
-    unfolding bytesLe
-    none-left = go (g .left) (g .rest)
-      where
-        go : (left : List Move) → drop at s ≡ framed (map moveRec left ++ map itemRec (b .items)) → left ≡ []
-        go [] r = refl
-        go (x ∷ xs) r = absurd (k (kind-at s at (moveRec x) (framed (map moveRec xs ++ map itemRec (b .items))) r))
-
     pub all-entered : table ≡ whole
     unfolding filled
-    all-entered = rw none-left at (g .gives)
+    all-entered = rw (none-left (g .left) (b .items) s at (g .rest) k) at (g .gives)
 
     pub at-items : Begins s b 0 at
-    at-items = rw none-left at (g .rest)
+    at-items = rw (none-left (g .left) (b .items) s at (g .rest) k) at (g .rest)
 
 -- ---- the pass over the items
 pub record Slotting (s : List ℕ) (b : Book) (whole : List ℕ) (at i : ℕ) (slots : List ℕ) : Type 0 where

@@ -1,21 +1,22 @@
 -- The ways through the tests of reading, for the result and the buffers alike, and for the contract. Assumes nothing.
-use mathlib.Core.Path.{_≡_, refl, sym, _∙_}
+use mathlib.Core.Path.{_≡_, refl, sym, ap, _∙_}
 use mathlib.Core.Bool.{Bool, true, false}
 use mathlib.Core.List.{List}
-use Prim.Native.Nat.{ℕ, _<_}
+use Prim.Native.Nat.{ℕ, _≤_, _<_}
+use native.Mathlib.Omega.{arith}
+use lib.ListN.{length, replicate, length-replicate}
 use Rattle.base.specs.Lists.{Each}
 use Rattle.base.specs.Tests.{pick}
 use Rattle.base.specs.Sizes.{LongEnough}
 use Rattle.base.specs.Shorter.{anyShort}
 use Rattle.base.proofs.Sizes.{long-off, off-long}
 use Rattle.book.specs.Book.{Book}
-use Rattle.book.specs.Lent.{Lent, sizes}
+use Rattle.book.specs.Lent.{Lent, lent, sizes}
 use Rattle.book.specs.Parse.{Parsed, parse}
 use Rattle.book.specs.Parse.Parsed.{Ok, Refused}
-use Rattle.book.specs.Buffers.{lentOf}
 use Rattle.reader.specs.declared.Reading.{Reading}
 use Rattle.reader.specs.Reads.{refusal, done}
-use Rattle.reader.specs.Contract.{onParsed, readBy, ReadAs}
+use Rattle.reader.specs.Contract.{ReadingOf, onParsed, readBy, lentBy, ReadAs}
 
 -- which way reading goes
 pub data Way (s : List ℕ) (l : Lent) : Type 0 where
@@ -54,15 +55,39 @@ module _ {A : Type 0} (s : List ℕ) (l : Lent) (refuse : ℕ → ℕ → A) (fo
       go true x = refl
       go false x = refl
 
+-- ---- what is answered for bytes that are judged
+pub faulty-of : (s : List ℕ) {r : Reading} {code place : ℕ} → Each (λ x. x < 256) s → parse s ≡ Refused code place → r ≡ refusal code place → ReadingOf s r
+faulty-of s h e x = record { bytes = h; result = x ∙ rw e }
+
+pub book-of : (s : List ℕ) {r : Reading} {b : Book} → Each (λ x. x < 256) s → parse s ≡ Ok b → r ≡ done b → ReadingOf s r
+book-of s h e x = record { bytes = h; result = x ∙ rw e }
+
 -- ---- the contract, way by way
 module _ (s : List ℕ) (l : Lent) (bytes : Each (λ x. x < 256) s) where
   pub as-short : anyShort (sizes l) ≡ true → (r : Reading) → r ≡ refusal 1 0 → ReadAs s l r l
   as-short h r x = record { bytes = bytes; result = x ∙ sym (when-short s l _ _ h); buffers = sym (when-short s l _ _ h) }
 
-  module _ (h : LongEnough (sizes l)) where
-    pub as-faulty : (code place : ℕ) → parse s ≡ Refused code place → (r : Reading) → r ≡ refusal code place → ReadAs s l r l
-    as-faulty code place e r x =
-        record { bytes = bytes; result = x ∙ sym (when-faulty s l _ _ h code place e); buffers = sym (when-faulty s l _ _ h code place e) }
+-- in buffers that are long enough reading answers so, and leaves what `lentBy` says
+pub read-as : {s : List ℕ} {r : Reading} (l : Lent) → ReadingOf s r → LongEnough (sizes l) → (l′ : Lent) → l′ ≡ lentBy s l → ReadAs s l r l′
+unfolding readBy pick
+read-as l c h l′ e = record { bytes = c .bytes; result = rw (long-off (sizes l) h) (c .result); buffers = e }
 
-    pub as-book : (b : Book) → parse s ≡ Ok b → (r : Reading) (l′ : Lent) → r ≡ done b → l′ ≡ lentOf b l → ReadAs s l r l′
-    as-book b e r l′ x y = record { bytes = bytes; result = x ∙ sym (when-fine s l _ _ h b e); buffers = y ∙ sym (when-fine s l _ _ h b e) }
+-- on a refusal that is what they held
+pub left-alone : {s : List ℕ} {r : Reading} (l : Lent) → ReadingOf s r → (r .code ≡ 0 → ⊥) → l ≡ lentBy s l
+left-alone {s} {r} l c n = go (way s l)
+  where
+    go : Way s l → l ≡ lentBy s l
+    go (by-short h) = sym (when-short s l _ _ h)
+    go (by-fault h code place e) = sym (when-faulty s l _ _ h code place e)
+    go (by-book h b e) = absurd (n (ap (λ (x : Reading). x .code) (c .result) ∙ rw e))
+
+-- there are buffers of the stated lengths
+pub stated : Lent
+stated = lent (replicate 2048 0) (replicate 2176 0) (replicate 32 0)
+
+pub stated-long : LongEnough (sizes stated)
+unfolding stated
+stated-long = (held 2048, (held 2176, (held 32, tt)))
+  where
+    held : (n : ℕ) → n ≤ length {A = ℕ} (replicate n 0)
+    held n = omega (arith, length-replicate {A = ℕ} n 0)

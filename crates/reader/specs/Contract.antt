@@ -18,6 +18,11 @@ abbrev pub onParsed : {A : Type 0} → Parsed → (ℕ → ℕ → A) → (Book 
 onParsed (Ok b) refuse fine = fine b
 onParsed (Refused code place) refuse fine = refuse code place
 
+-- the contract of `reading_of`: what reading answers for the bytes s where every lent buffer is long enough
+pub record ReadingOf (s : List ℕ) (r : Reading) : Type 0 where
+  pub bytes : Each (λ x. x < 256) s
+  pub result : r ≡ onParsed (parse s) refusal done
+
 -- `refuse` with the first code and its place, or `fine` with the book
 unfoldable pub readBy : {A : Type 0} → List ℕ → Lent → (ℕ → ℕ → A) → (Book → A) → A
 readBy s l refuse fine = pick (anyShort (sizes l)) (refuse 1 0) (onParsed (parse s) refuse fine)

@@ -2,7 +2,6 @@
 ghost use mathlib.Core.Path.{_≡_};
 ghost use Prim.Native.Nat.{_<_};
 ghost use lib.ListN.{length, set};
-ghost use Rattle.book.specs.Buffers.{zeroed};
 ghost use Rattle.reader.specs.Filling.{moveStored};
 
 // Stores v at i, where there is an i.
@@ -20,20 +19,6 @@ pub(crate) fn store_weight(weights: &mut [u16], i: usize, v: u16)
 {
     if i < weights.len() {
         weights[i] = v;
-    }
-}
-
-// Sets the first n entries to 0, as far as there are any.
-pub(crate) fn clear(table: &mut [u64], n: usize)
-    ensures { λ _. ⌜ now (table .exit) ≡ zeroed n (now (table .entry)) ⌝ }
-{
-    let mut i: usize = 0;
-    while i < n {
-        if table.len() <= i {
-            return;
-        }
-        table[i] = 0;
-        i = i + 1;
     }
 }
 

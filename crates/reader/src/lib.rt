@@ -16,7 +16,7 @@ ghost use Rattle.reader.specs.Judged.{ScanBounded};
 ghost use Rattle.reader.specs.Summing.{SummedUp};
 ghost use Rattle.reader.specs.Filling.{TableFilled, SlotsFilled, WeightsFilled};
 ghost use Rattle.reader.specs.Reads.{refusal};
-ghost use Rattle.reader.specs.Contract.{ReadAs};
+ghost use Rattle.reader.specs.Contract.{ReadingOf, ReadAs};
 
 // What reading answers: the code and its place; n, m and the number of items, each 0 on a refusal.
 #[repr(C)]
@@ -87,7 +87,7 @@ pub fn fill_table(book: &[u8], table: &mut [u64]) -> usize
 {
     let n = octets::byte_at(book, 4);
     let m = octets::byte_at(book, 5);
-    fill::clear(table, (n * m) as usize);
+    moves::clear(table, (n * m) as usize);
     let mut at = items::first_move(book);
     while octets::u16_at(book, at + 2) == 2 {
         fill::put_move(book, at, m, table);
@@ -140,6 +140,23 @@ pub fn refused(code: u64, place: u64) -> Reading
     }
 }
 
+// What reading answers where the lent buffers are long enough; nothing is filled.
+pub fn reading_of(book: &[u8]) -> Reading
+    ensures { λ r. ⌜ ReadingOf (now (book .entry)) r ⌝ }
+{
+    let seen = judge(book);
+    match seen {
+        Scan::Fault(code, place) => refused(code, place),
+        Scan::Read(st) => Reading {
+            code: 0,
+            place: 0,
+            n: st.n,
+            m: st.m,
+            items: st.items,
+        },
+    }
+}
+
 // Reads a book into a table of at least 2,048 entries, slots of at least 2,176 bytes and at least 32 weights. Nothing is filled before the last
 // record is judged.
 pub fn read(book: &[u8], table: &mut [u64], slots: &mut [u8], weights: &mut [u16]) -> Reading
@@ -155,20 +172,12 @@ pub fn read(book: &[u8], table: &mut [u64], slots: &mut [u8], weights: &mut [u16
     if weights.len() < book::WEIGHTS_LEN {
         return refused(1, 0);
     }
-    let seen = judge(book);
-    match seen {
-        Scan::Fault(code, place) => refused(code, place),
-        Scan::Read(st) => {
-            let first = fill_table(book, table);
-            fill_slots(book, first, slots);
-            fill_weights(book, weights);
-            Reading {
-                code: 0,
-                place: 0,
-                n: st.n,
-                m: st.m,
-                items: st.items,
-            }
-        }
+    let found = reading_of(book);
+    if found.code != 0 {
+        return found;
     }
+    let first = fill_table(book, table);
+    fill_slots(book, first, slots);
+    fill_weights(book, weights);
+    found
 }

@@ -27,12 +27,6 @@ module _ (s : List ℕ) (a : ℕ) where
   unfolding itemAt
   r-is r e = e ∙ sym (length-piece _ s (34 * a + 10))
 
-  pub forward-is : (x r : ℕ) → r ≡ getD s (34 * a + 2 + x) 0 → x < length (itemAt s a .forward) → r ≡ getD (itemAt s a .forward) x 0
-  unfolding itemAt
-  forward-is x r e h =
-      let k = getD s (34 * a) 0 in
-      e ∙ sym (piece-get k s (34 * a + 2) x (omega (arith, length-piece k s (34 * a + 2))))
-
   pub reverse-is : (x r : ℕ) → r ≡ getD s (34 * a + 10 + x) 0 → x < length (itemAt s a .reverse) → r ≡ getD (itemAt s a .reverse) x 0
   unfolding itemAt
   reverse-is x r e h =

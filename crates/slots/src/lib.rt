@@ -24,13 +24,6 @@ pub fn r(slots: &[u8], a: u8) -> u64
     octets::byte_at(slots, SLOT_LEN * a as usize + 1)
 }
 
-// Its forward command x, where it has one.
-pub fn forward(slots: &[u8], a: u8, x: u8) -> u64
-    ensures { λ r. ⌜ (x < length (itemAt (now (slots .entry)) a .forward) → r ≡ getD (itemAt (now (slots .entry)) a .forward) x 0) ⌝ }
-{
-    octets::byte_at(slots, SLOT_LEN * a as usize + 2 + x as usize)
-}
-
 // Its reverse command x, where it has one.
 pub fn reverse(slots: &[u8], a: u8, x: u8) -> u64
     ensures { λ r. ⌜ (x < length (itemAt (now (slots .entry)) a .reverse) → r ≡ getD (itemAt (now (slots .entry)) a .reverse) x 0) × (r < 256) ⌝ }

@@ -3,6 +3,7 @@ use mathlib.Core.Path.{_≡_}
 use mathlib.Core.Bool.{true, false}
 use mathlib.Core.List.{List, [], _∷_}
 use Prim.Native.Nat.{ℕ}
+use Rattle.reversal.specs.Device.{tabled}
 use Rattle.states.specs.StateSets.{setOf, beforeIn, visitedIn}
 
 -- three states and one command: state 0 may go to 1 or 2, state 1 can't carry it out, state 2 goes to 0
@@ -10,14 +11,14 @@ abbrev pub three : List ℕ
 three = 6 ∷ 0 ∷ 1 ∷ []
 
 pub record Visits : Type 0 where
-  pub from-0-and-2 : visitedIn 3 1 three 0 5 ≡ record { set = setOf 7; able = true; visits = 2 }
+  pub from-0-and-2 : visitedIn (tabled 3 1 three) 0 5 ≡ record { set = setOf 7; able = true; visits = 2 }
   -- a state without outcomes is a visit
-  pub from-0-and-1 : visitedIn 3 1 three 0 3 ≡ record { set = setOf 6; able = false; visits = 2 }
-  pub from-nowhere : visitedIn 3 1 three 0 0 ≡ record { set = setOf 0; able = true; visits = 0 }
+  pub from-0-and-1 : visitedIn (tabled 3 1 three) 0 3 ≡ record { set = setOf 6; able = false; visits = 2 }
+  pub from-nowhere : visitedIn (tabled 3 1 three) 0 0 ≡ record { set = setOf 0; able = true; visits = 0 }
   -- 13 is 1 + 4 + 8: state 3 is none of the three
-  pub past-n : visitedIn 3 1 three 0 13 ≡ record { set = setOf 7; able = true; visits = 2 }
+  pub past-n : visitedIn (tabled 3 1 three) 0 13 ≡ record { set = setOf 7; able = true; visits = 2 }
   -- 65 states, 33 commands
-  pub states-over : visitedIn 65 1 three 0 5 ≡ record { set = setOf 0; able = false; visits = 0 }
-  pub commands-over : visitedIn 3 33 three 0 5 ≡ record { set = setOf 0; able = false; visits = 0 }
+  pub states-over : visitedIn (tabled 65 1 three) 0 5 ≡ record { set = setOf 0; able = false; visits = 0 }
+  pub commands-over : visitedIn (tabled 3 33 three) 0 5 ≡ record { set = setOf 0; able = false; visits = 0 }
   -- of all three states, 0 alone may lead into 2
-  pub into-2 : beforeIn 3 1 three 0 7 4 ≡ 1
+  pub into-2 : beforeIn (tabled 3 1 three) 0 7 4 ≡ 1

@@ -1,7 +1,7 @@
-// What the test programs that run vector files share: parts of a file, and rows of numbers on standard output.
+// What the test programs that run vector files share: parts of a file, lengths, and rows of numbers on standard output.
 use libc::STDOUT_FILENO;
 ghost use mathlib.Core.Path.{_≡_};
-ghost use Prim.Native.Nat.{_≤_, min};
+ghost use Prim.Native.Nat.{_*_, _<_, _≤_, min};
 ghost use lib.ListN.{length, take, drop};
 ghost use Rattle.io.specs.Counts.{Counts};
 
@@ -27,6 +27,27 @@ pub fn read_part(file: i32, size: u16, buf: &mut [u8]) -> usize
     let wanted = io::count(size as isize, buf);
     let got = io::read_full(file, &mut buf[..wanted]);
     io::count(got as isize, buf)
+}
+
+// How much of a buffer that is five longer than stated is lent in a case of a kind: all of it where that is `longer`, one less than stated where it
+// is `short`.
+pub fn size(whole: usize, kind: u64, short: u64, longer: u64) -> usize
+    ensures { λ r. ⌜ r ≤ whole ⌝ }
+{
+    if kind == longer {
+        return whole;
+    }
+    if whole < 6 {
+        return 0;
+    }
+    if kind == short { whole - 6 } else { whole - 5 }
+}
+
+// The bytes that so many legs take, at most 96.
+pub fn leg_bytes(legs: u64) -> usize
+    ensures { λ r. ⌜ (legs < 32 → r ≡ 3 * legs) × (32 ≤ legs → r ≡ 96) ⌝ }
+{
+    if legs < 32 { 3 * legs as usize } else { 96 }
 }
 
 // Prints n after a space, or at the beginning of a row.

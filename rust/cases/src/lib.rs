@@ -15,4 +15,6 @@ pub use books::{
     ridge_book, ridge_run,
 };
 pub use random::{input, Input};
-pub use vectors::{assemble_cases, book_cases, forecast_cases, masks, page_cases, write_cases};
+pub use vectors::{
+    assemble_cases, book_cases, forecast_cases, masks, page_cases, small_cases, write_cases,
+};

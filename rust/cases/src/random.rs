@@ -30,6 +30,9 @@ pub struct Input {
     pub page: Vec<u8>,
     /// For a forecast, with the book: how many commands a run may have.
     pub i: u64,
+    /// For assembling with a scratch, in the place of table, slots and weights. It is too short now
+    /// and then, whatever the other buffers are.
+    pub scratch: Vec<u64>,
 
     /// For writing.
     pub n: u64,
@@ -132,6 +135,8 @@ pub fn input(seed: u64) -> Input {
     let ridge = looked_up(rng, 64, 16);
     let portable = looked_up(rng, 32, 12);
     let i = forecast_length(rng);
+    let short = rng.chance(4);
+    let scratch = lent_length(rng, 64, short);
 
     let filler = &mut Rng::new(seed ^ 0x5eed_f111);
     Input {
@@ -148,6 +153,7 @@ pub fn input(seed: u64) -> Input {
             .collect(),
         page: (0..page).map(|_| filler.byte()).collect(),
         i,
+        scratch: (0..scratch).map(|_| filler.word()).collect(),
         n: writing.n,
         m: writing.m,
         items: writing.items,

@@ -99,6 +99,19 @@ pub struct PageCase {
     pub page_after: Vec<u8>,
 }
 
+/// What is given to assembling with a scratch and what it must answer.
+#[derive(Clone, Debug)]
+pub struct SmallCase {
+    /// Book and run, and the answer.
+    pub assemble: AssembleCase,
+    /// What the lent buffers hold before the call.
+    pub scratch: Vec<u64>,
+    pub plan: Vec<u8>,
+    pub legs: Vec<u8>,
+    /// On code 1 the scratch's entries 0 to 7 afterwards; on every other code none.
+    pub scratch_after: Vec<u64>,
+}
+
 /// The constant tables of the devices.
 #[derive(Clone, Debug)]
 pub struct Masks {
@@ -126,27 +139,32 @@ pub fn assemble_cases() -> Vec<AssembleCase> {
     let mut lines = answers!("case_vectors").lines();
     let mut cases = Vec::new();
     while !bytes.0.is_empty() {
-        let (book, run) = (bytes.number(2), bytes.number(2));
-        let (book, run) = (bytes.take(book).to_vec(), bytes.take(run).to_vec());
-        let head = numbers::<u64>(lines.next());
-        let plan = numbers(lines.next());
-        let legs = numbers::<u8>(lines.next());
-        let fewest = numbers::<u32>(lines.next());
-        cases.push(AssembleCase {
-            book,
-            run,
-            code: head[0],
-            place: head[1],
-            commands: head[2],
-            legs: head[3],
-            sum: head[4],
-            plan,
-            leg_list: legs.chunks(3).map(|leg| leg.try_into().unwrap()).collect(),
-            fewest: fewest.try_into().unwrap(),
-        });
+        cases.push(assemble_case(&mut bytes, &mut lines));
     }
     assert!(lines.next().is_none());
     cases
+}
+
+/// One of them.
+fn assemble_case<'a>(bytes: &mut Bytes, lines: &mut impl Iterator<Item = &'a str>) -> AssembleCase {
+    let (book, run) = (bytes.number(2), bytes.number(2));
+    let (book, run) = (bytes.take(book).to_vec(), bytes.take(run).to_vec());
+    let head = numbers::<u64>(lines.next());
+    let plan = numbers(lines.next());
+    let legs = numbers::<u8>(lines.next());
+    let fewest = numbers::<u32>(lines.next());
+    AssembleCase {
+        book,
+        run,
+        code: head[0],
+        place: head[1],
+        commands: head[2],
+        legs: head[3],
+        sum: head[4],
+        plan,
+        leg_list: legs.chunks(3).map(|leg| leg.try_into().unwrap()).collect(),
+        fewest: fewest.try_into().unwrap(),
+    }
 }
 
 /// Each case: a byte for the lengths of the lent buffers, a two-byte length, the book. Each answer:
@@ -290,7 +308,34 @@ pub fn page_cases() -> Vec<PageCase> {
     cases
 }
 
-// What lent buffers of so many elements hold before each call.
+/// Each case: a byte for the lengths of the lent buffers, then as for assembling. Each answer: five
+/// lines, namely the four of assembling; on code 1 the scratch's entries 0 to 7.
+pub fn small_cases() -> Vec<SmallCase> {
+    let mut bytes = Bytes(data!("small_vectors/data/small.bin"));
+    let mut lines = answers!("small_vectors").lines();
+    let mut cases = Vec::new();
+    while !bytes.0.is_empty() {
+        let (scratch, plan, legs) = match bytes.number(1) {
+            0 => (64, 256, 96),
+            1 => (63, 256, 96),
+            2 => (64, 255, 96),
+            3 => (64, 256, 95),
+            4 => (69, 261, 101),
+            lent => panic!("lent {lent}"),
+        };
+        cases.push(SmallCase {
+            assemble: assemble_case(&mut bytes, &mut lines),
+            scratch: table_before(scratch),
+            plan: vec![201; plan],
+            legs: vec![202; legs],
+            scratch_after: numbers(lines.next()),
+        });
+    }
+    assert!(lines.next().is_none());
+    cases
+}
+
+// What lent buffers of so many elements hold before each call; a scratch holds what a table does.
 
 fn table_before(entries: usize) -> Vec<u64> {
     (1..=entries as u64).collect()

@@ -4,8 +4,8 @@
 
 use rollback_cases::{input, Input};
 use rollback_plain::{
-    assemble, assemble_legs, check, forecast, page, portable, read, ridge, write, Assembly, Leg,
-    Lookup,
+    assemble, assemble_legs, assemble_small, check, forecast, page, portable, read, ridge, write,
+    Assembly, Leg, Lookup,
 };
 use std::collections::BTreeSet;
 
@@ -368,13 +368,26 @@ struct Planned {
     chains: Vec<Chain>,
 }
 
+/// No chain from any point.
+const NO_CHAINS: [u32; 33] = [4_294_967_295; 33];
+
 const NOTHING: Planned = Planned {
     sum: 0,
-    fewest: [4_294_967_295; 33],
+    fewest: NO_CHAINS,
     plan: vec![],
     legs: vec![],
     page: String::new(),
     chains: vec![],
+};
+
+/// What is answered where a lent buffer is too short.
+const SHORT: Assembly = Assembly {
+    code: 1,
+    place: 0,
+    commands: 0,
+    legs: 0,
+    sum: 0,
+    fewest: NO_CHAINS,
 };
 
 /// The code, and what is found, if every item is accepted.
@@ -621,7 +634,8 @@ fn over<T: Clone>(before: &[T], start: &[T]) -> Vec<T> {
 fn books_and_runs() {
     let mut codes = [0; 14];
     let mut met = [0; PLACES.len() + RECORDS.len() + EIGHTS.len()];
-    let (mut skipped, mut two_legs, mut short_pages) = (0, 0, 0);
+    let (mut skipped, mut two_legs) = (0, 0);
+    let (mut short_pages, mut short_scratches) = (0, 0);
     for seed in 0..SEEDS {
         let input = input(seed);
         let Some(expected) = expected(&input) else {
@@ -705,6 +719,27 @@ fn books_and_runs() {
             "leg structs, seed {seed}"
         );
 
+        // With a scratch too, unless it is short itself, or what stands in its place here is.
+        let mut scratch = input.scratch.clone();
+        let (mut plan, mut legs) = (input.plan.clone(), input.legs.clone());
+        let small = assemble_small(&input.book, &input.run, &mut scratch, &mut plan, &mut legs);
+        if input.scratch.len() < 64 {
+            assert_eq!(small, SHORT, "short scratch, seed {seed}");
+            let after = (&plan, &legs);
+            let before = (&input.plan, &input.legs);
+            assert!(after == before, "short scratch, seed {seed}");
+            short_scratches += 1;
+        } else if expected.read[0] != 1 {
+            assert_eq!(small, found, "scratch, seed {seed}");
+            assert_eq!(plan, expected_plan, "scratch, seed {seed}");
+            assert_eq!(legs, expected_legs, "scratch, seed {seed}");
+        }
+        let free = if small.code == 1 { 0 } else { 64 };
+        assert!(
+            scratch[free..] == input.scratch[free..],
+            "after a scratch, seed {seed}"
+        );
+
         // The page answers as assembling does, unless it is short itself.
         let mut now = untouched.clone();
         let (mut plan, mut legs) = (input.plan.clone(), input.legs.clone());
@@ -720,15 +755,7 @@ fn books_and_runs() {
             &mut lines,
         );
         if input.page.len() < 1312 {
-            let refused = Assembly {
-                code: 1,
-                place: 0,
-                commands: 0,
-                legs: 0,
-                sum: 0,
-                fewest: NOTHING.fewest,
-            };
-            assert_eq!(paged.assembly, refused, "short page, seed {seed}");
+            assert_eq!(paged.assembly, SHORT, "short page, seed {seed}");
             assert_eq!(paged.length, 0, "short page, seed {seed}");
             let after = (now, plan, legs, lines);
             let before = (untouched, input.plan, input.legs, input.page);
@@ -762,7 +789,7 @@ fn books_and_runs() {
         }
     }
     println!("{SEEDS} seeds, {skipped} skipped, codes {codes:?}, {two_legs} with two legs or more");
-    println!("{short_pages} short pages");
+    println!("{short_pages} short pages, {short_scratches} short scratches");
     let names = PLACES.iter().chain(&RECORDS).chain(&EIGHTS);
     for (place, count) in names.zip(met) {
         println!("{place}: {count}");
@@ -772,6 +799,7 @@ fn books_and_runs() {
     assert!(codes.iter().all(|&count| count >= 100), "{codes:?}");
     assert!(two_legs >= 800, "{two_legs}");
     assert!(short_pages >= 100, "{short_pages}");
+    assert!(short_scratches >= 100, "{short_scratches}");
 }
 
 /// Code, place, units, plan bytes and legs.

@@ -5,7 +5,7 @@ use crate::slot::{self, Slot};
 use crate::{run, Assembly, Fault, Leg, Lent, ITEMS, PLAN, POINTS, RUN};
 
 /// The number of a point from which no chain exists.
-const NONE: u32 = u32::MAX;
+pub(crate) const NONE: u32 = u32::MAX;
 
 /// Assembles the plan; the legs are bytes, three for each.
 pub fn assemble(

@@ -18,6 +18,7 @@ mod ridge;
 mod run;
 mod sets;
 mod slot;
+mod small;
 mod write;
 
 pub use assemble::{assemble, assemble_legs};
@@ -26,6 +27,7 @@ pub use page::page;
 pub use portable::portable;
 pub use read::{check, read};
 pub use ridge::ridge;
+pub use small::assemble_small;
 pub use write::write;
 
 /// Entries of a lent table.

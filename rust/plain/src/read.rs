@@ -6,9 +6,9 @@ use crate::slot::{self, Slot};
 use crate::{Checking, Fault, Lent, Reading, ITEMS, SLOTS, TABLE, WEIGHT, WEIGHTS};
 
 const DEVICE: u16 = 1;
-const MOVE: u16 = 2;
-const ITEM: u16 = 3;
-const WEIGHTS_RECORD: u16 = 5;
+pub(crate) const MOVE: u16 = 2;
+pub(crate) const ITEM: u16 = 3;
+pub(crate) const WEIGHTS_RECORD: u16 = 5;
 
 /// Bytes of a device record and of a move record, headers included.
 const DEVICE_SIZE: usize = 6;
@@ -218,7 +218,7 @@ fn item_body(body: &[u8], m: u8, outside: u64) -> Result<Item, u64> {
 }
 
 /// The kind and body of the record at an offset, or 2 where it is cut off.
-fn record(book: &[u8], at: usize) -> Result<(u16, &[u8]), Fault> {
+pub(crate) fn record(book: &[u8], at: usize) -> Result<(u16, &[u8]), Fault> {
     if let Some((&[l, ll, k, kk], rest)) = book[at..].split_first_chunk() {
         if let Some(body) = rest.get(..u16::from_le_bytes([l, ll]).into()) {
             return Ok((u16::from_le_bytes([k, kk]), body));

@@ -8,7 +8,7 @@ const KIND: u16 = 4;
 /// A run: i commands, and a sighting for each of the points 0 to i.
 pub(crate) struct Run<'a> {
     pub commands: &'a [u8],
-    sightings: [u64; POINTS],
+    pub sightings: [u64; POINTS],
 }
 
 /// The run, when it is "exactly one record" with all commands below m and all

@@ -1,6 +1,6 @@
 //! The marked twelve cases on the small device Q, items that can never be used,
-//! plans on paper, weights, units and forecasts, and facts of the two devices
-//! with a constant table.
+//! plans on paper, weights, units and forecasts, plans with a scratch, and facts
+//! of the two devices with a constant table.
 
 use super::*;
 
@@ -57,8 +57,17 @@ fn checked(items: &[Item]) -> Checking {
     checked_of(&book(items))
 }
 
+/// Assembling with a scratch must turn the same books down.
 fn checked_of(book: &[u8]) -> Checking {
-    check(book, &mut [0; 2048], &mut [0; 2176], &mut [0; 32])
+    let found = check(book, &mut [0; 2048], &mut [0; 2176], &mut [0; 32]);
+    let expected = match found.code {
+        // There is no run.
+        0 => (9, 0),
+        code => (code, found.place),
+    };
+    let small = assemble_small(book, &[], &mut [0; 64], &mut [0; 256], &mut [0; 96]);
+    assert_eq!((small.code, small.place), expected);
+    found
 }
 
 /// On Q: code, plan and legs.
@@ -66,8 +75,9 @@ fn assembled(commands: &[u8], sightings: &[u64]) -> (Assembly, Vec<u8>, Vec<[u8;
     assembled_of(&book(&Q), &run(commands, sightings))
 }
 
-/// Code, plan and legs; both forms of the legs must agree, what lies past the
-/// counts must stay, and the sum must be that of the plan's commands.
+/// Code, plan and legs; both forms of the legs must agree, and the form with a
+/// scratch, what lies past the counts must stay, and the sum must be that of the
+/// plan's commands.
 fn assembled_of(book: &[u8], run: &[u8]) -> (Assembly, Vec<u8>, Vec<[u8; 3]>) {
     let (mut table, mut slots, mut weights) = ([0; 2048], [0; 2176], [0; 32]);
     let (mut plan, mut legs) = ([77; 256], [78; 96]);
@@ -106,6 +116,11 @@ fn assembled_of(book: &[u8], run: &[u8]) -> (Assembly, Vec<u8>, Vec<[u8; 3]>) {
     for (leg, bytes) in structs.iter().zip(legs.chunks(3)) {
         assert_eq!([leg.item, leg.upper, leg.lower], bytes);
     }
+
+    let (mut scratch, mut again, mut bytes) = ([79; 69], [77; 256], [78; 96]);
+    let third = assemble_small(book, run, &mut scratch, &mut again, &mut bytes);
+    assert_eq!((result, plan, legs), (third, again, bytes));
+    assert_eq!(scratch[64..], [79; 5]);
     let legs = legs[..3 * count]
         .chunks(3)
         .map(|leg| leg.try_into().unwrap())
@@ -646,6 +661,9 @@ fn reading_refused(book: &[u8]) -> (u64, u64) {
     let paged = lent.page(book, &sent).assembly;
     assert_eq!((paged.code, paged.place), (found.code, found.place));
     assert_eq!((paged.sum, paged.fewest), (0, fewest(&[])));
+    let mut scratch = [79; 64];
+    let small = assemble_small(book, &sent, &mut scratch, &mut lent.plan, &mut lent.legs);
+    assert_eq!(small, paged);
     assert_eq!(lent, Lent::new(STATED));
     (found.code, found.place)
 }
@@ -987,6 +1005,68 @@ fn the_most_units() {
     };
     assert_eq!(checked_of(&bytes), good);
     assert_eq!(forecasted(&bytes, 32), [0, 0, 65_536, 256, 32]);
+}
+
+// A scratch
+
+/// A short buffer goes before the book's faults and leaves all untouched.
+#[test]
+fn a_short_scratch_is_refused_first() {
+    let good = run(&[2, 1], &[7, 7, 7]);
+    let short = Assembly {
+        code: 1,
+        place: 0,
+        commands: 0,
+        legs: 0,
+        sum: 0,
+        fewest: fewest(&[]),
+    };
+    let stated = [64, 256, 96];
+    for book in [book(&Q), book(&[STUCK]), vec![]] {
+        for run in [&good[..], &[]] {
+            for which in 0..3 {
+                for length in [0, 1, stated[which] - 1] {
+                    let mut lengths = stated;
+                    lengths[which] = length;
+                    let before = (
+                        vec![79; lengths[0]],
+                        vec![77; lengths[1]],
+                        vec![78; lengths[2]],
+                    );
+                    let mut lent = before.clone();
+                    let found = assemble_small(&book, run, &mut lent.0, &mut lent.1, &mut lent.2);
+                    assert_eq!((found, lent), (short, before));
+                }
+            }
+        }
+    }
+}
+
+/// From the first state a command leads on to every state; it is undone from
+/// each of them. The highest state counts as the lowest does.
+#[test]
+fn a_scratch_holds_every_state() {
+    let mut bytes = vec![2, 0, 1, 0, 64, 2];
+    for state in 0..64 {
+        let outcomes = if state == 0 { u64::MAX } else { 1 << 63 };
+        for (command, mask) in [(0, outcomes), (1, 1)] {
+            bytes.extend([10, 0, 2, 0, state, command]);
+            bytes.extend(mask.to_le_bytes());
+        }
+    }
+    let sent = run(&[0], &[u64::MAX; 2]);
+    let with = |psi| {
+        let book = [&bytes[..], &item(&(&[0], &[1], u64::MAX, psi))].concat();
+        assert_eq!(checked_of(&book).code, if psi == 1 { 0 } else { 8 });
+        let (found, plan, legs) = assembled_of(&book, &sent);
+        (found.code, plan, legs)
+    };
+    assert_eq!(with(1), (11, vec![], vec![]));
+    assert_eq!(with(1 << 63), (8, vec![], vec![]));
+    assert_eq!(with(1 | 1 << 63), (8, vec![], vec![]));
+    let book = [&bytes[..], &item(&(&[0], &[1], u64::MAX, 1))].concat();
+    let (found, plan, legs) = assembled_of(&book, &run(&[0], &[1, 1 << 63]));
+    assert_eq!((found.code, plan, legs), (0, vec![1], vec![[0, 1, 0]]));
 }
 
 fn found(mask: u64) -> Lookup {

@@ -1,8 +1,11 @@
 //! Every case that a second program has answered.
 
-use rollback_cases::{assemble_cases, book_cases, forecast_cases, masks, page_cases, write_cases};
+use rollback_cases::{
+    assemble_cases, book_cases, forecast_cases, masks, page_cases, small_cases, write_cases,
+};
 use rollback_plain::{
-    assemble, assemble_legs, check, forecast, page, portable, read, ridge, write, Leg, Lookup,
+    assemble, assemble_legs, assemble_small, check, forecast, page, portable, read, ridge, write,
+    Leg, Lookup,
 };
 
 fn finds(lookup: fn(u64, u64) -> Lookup, commands: u64, masks: &[u64]) {
@@ -198,6 +201,63 @@ fn plans_are_assembled() {
             .flat_map(|l| [l.item, l.upper, l.lower])
             .collect();
         assert_eq!(bytes, expected_legs, "case {number}");
+    }
+}
+
+#[test]
+fn plans_are_assembled_with_a_scratch() {
+    let cases = small_cases();
+    assert_eq!(cases.len(), 700);
+    for (number, case) in cases.iter().enumerate() {
+        let answer = &case.assemble;
+        let mut scratch = case.scratch.clone();
+        let (mut plan, mut legs) = (case.plan.clone(), case.legs.clone());
+        let found = assemble_small(
+            &answer.book,
+            &answer.run,
+            &mut scratch,
+            &mut plan,
+            &mut legs,
+        );
+        let head = [found.code, found.place, found.commands, found.legs];
+        assert_eq!(
+            head,
+            [answer.code, answer.place, answer.commands, answer.legs],
+            "case {number}"
+        );
+        assert_eq!(found.sum, answer.sum, "case {number}");
+        assert_eq!(found.fewest, answer.fewest, "case {number}");
+
+        let mut expected_plan = answer.plan.clone();
+        expected_plan.resize(case.plan.len(), 201);
+        assert_eq!(plan, expected_plan, "case {number}");
+        let mut expected_legs = answer.leg_list.concat();
+        expected_legs.resize(case.legs.len(), 202);
+        assert_eq!(legs, expected_legs, "case {number}");
+
+        if answer.code == 1 {
+            assert_eq!(scratch[..8], case.scratch_after, "case {number}");
+            assert_eq!(scratch, case.scratch, "case {number}");
+        } else {
+            assert!(case.scratch_after.is_empty(), "case {number}");
+            assert_eq!(scratch[64..], case.scratch[64..], "case {number}");
+        }
+
+        // The first form, where the scratch is long enough.
+        let (mut plan_after, mut legs_after) = (case.plan.clone(), case.legs.clone());
+        if case.scratch.len() >= 64 {
+            let again = assemble(
+                &answer.book,
+                &answer.run,
+                &mut [7; 2048],
+                &mut [8; 2176],
+                &mut [9; 32],
+                &mut plan_after,
+                &mut legs_after,
+            );
+            assert_eq!(found, again, "case {number}");
+        }
+        assert_eq!((plan, legs), (plan_after, legs_after), "case {number}");
     }
 }
 

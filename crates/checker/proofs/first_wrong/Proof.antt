@@ -9,14 +9,15 @@ use Prim.Native.Nat.{ℕ, _+_, _-_, _^_, _≤_, _<_}
 use native.Mathlib.Omega.{arith}
 use borrow.Author.Needs.{needs}
 use borrow.Author.Tests.{not-true, not-false}
-use lib.ListN.{length, length-take, length-drop}
+use lib.ListN.{length}
 use Rattle.base.specs.Cardinality.{cardinality}
 use Rattle.base.proofs.Visiting.{cardinality-less}
-use Rattle.reversal.specs.Device.{Device, tabled}
+use Rattle.reversal.specs.Device.{Device}
 use Rattle.reversal.specs.Reversal.{Item}
 use Rattle.reversal.specs.Chains.{item}
 use Rattle.reversal.specs.Computed.Sets.{reverses, effective}
 use Rattle.reversal.specs.Computed.Units.{itemMade}
+use Rattle.states.specs.StateSets.{deviceIn}
 use Rattle.states.proofs.Laws.{mask-of}
 use Rattle.book.specs.Book.{Book, AllowedBook, bytesOf}
 use Rattle.items.specs.Items.{ItemStands, Fields}
@@ -31,42 +32,39 @@ use Rattle.checker.proofs.first_wrong.Statement.{statement}
 use Rattle.checker.proofs.first_wrong.Tie as tie
 
 abbrev Inv-loop2 : tie.InvT-loop2
-Inv-loop2 book table n m at found units item forward reverse used starts start ends₀ j₀ j-end ends j =
-    (j ≤ j-end) × Reached n m table book item start units ends j
+Inv-loop2 book masks tabled n m at found units item used starts start ends₀ j₀ j-end ends j =
+    (j ≤ j-end) × Reached (deviceIn tabled book masks n m) book item start units ends j
 
 abbrev μ-loop2 : tie.MeasureT-loop2
-μ-loop2 book table n m at found units item forward reverse used starts start ends₀ j₀ j-end ends j = j-end - j
+μ-loop2 book masks tabled n m at found units item used starts start ends₀ j₀ j-end ends j = j-end - j
 
 abbrev Inv-loop : tie.InvT-loop
-Inv-loop book table n m at found₀ units₀ item forward reverse used₀ starts₀ start₀ found units used starts start =
-    (found ≡ AllAccepted) × Passed n m table book item units₀ (starts .mask) start units used
+Inv-loop book masks tabled n m at found₀ units₀ item used₀ starts₀ start₀ found units used starts start =
+    (found ≡ AllAccepted) × Passed (deviceIn tabled book masks n m) book item units₀ (starts .mask) start units used
 
 abbrev μ-loop : tie.MeasureT-loop
-μ-loop book table n m at found₀ units₀ item forward reverse used₀ starts₀ start₀ found units used starts start = cardinality n (starts .mask)
+μ-loop book masks tabled n m at found₀ units₀ item used₀ starts₀ start₀ found units used starts start = cardinality n (starts .mask)
 
 abbrev Inv-items : tie.InvT-items
-Inv-items book table n m at₀ found₀ units₀ at found units =
-    (found ≡ AllAccepted) × ((b : Book) → AllowedBook b → bytesOf b ≡ book → Walking (tabled n m table) book b at units)
+Inv-items book masks tabled n m at₀ found₀ units₀ at found units =
+    (found ≡ AllAccepted) × ((b : Book) → AllowedBook b → bytesOf b ≡ book → Walking (deviceIn tabled book masks n m) book b at units)
 
 abbrev μ-items : tie.MeasureT-items
-μ-items book table n m at₀ found₀ units₀ at found units = length book - at
+μ-items book masks tabled n m at₀ found₀ units₀ at found units = length book - at
 
 -- ---- an item was read
 module _ (c : tie.After-item-at Inv-loop2 μ-loop2 Inv-loop μ-loop Inv-items μ-items) where
   abbrev bookOf : List ℕ
   bookOf = c .before .before .before .before .before .before .args .book .now
 
-  abbrev tableOf : List ℕ
-  tableOf = c .before .before .before .before .before .before .args .table .now
-
   abbrev nOf : ℕ
   nOf = c .before .before .before .before .before .before .args .n
 
-  abbrev mOf : ℕ
-  mOf = c .before .before .before .before .before .before .args .m
-
+  -- the device that is lent
   abbrev device : Device
-  device = tabled nOf mOf tableOf
+  device =
+      let a = c .before .before .before .before .before .before .args in
+      deviceIn (a .tabled) bookOf (a .masks .now) nOf (a .m)
 
   few : nOf ≤ 64
   few = c .before .before .before .before .before .before .pre .0
@@ -79,7 +77,7 @@ module _ (c : tie.After-item-at Inv-loop2 μ-loop2 Inv-loop μ-loop Inv-items μ
   madeOf = c .before .before .items .units
 
   abbrev EndedFrom : ℕ → ℕ → Counted → Type 0
-  EndedFrom S units x = Ended nOf mOf tableOf bookOf (c .item-at .result) S units x
+  EndedFrom S units x = Ended device bookOf (c .item-at .result) S units x
 
   -- where the walk is, in every book whose bytes these are
   abbrev walk : (b : Book) → AllowedBook b → bytesOf b ≡ bookOf → Walking device bookOf b atOf madeOf
@@ -100,7 +98,7 @@ module _ (c : tie.After-item-at Inv-loop2 μ-loop2 Inv-loop μ-loop Inv-items μ
       let f = is (w .0) (w .1) (w .2) in (f .forward-in, f .reverse-in, start .good .0 .0)
 
   -- the units so far are few, and so are its commands
-  small : {rest start units : ℕ} {used : Bool} → Passed nOf mOf tableOf bookOf (c .item-at .result) madeOf rest start units used
+  small : {rest start units : ℕ} {used : Bool} → Passed device bookOf (c .item-at .result) madeOf rest start units used
       → (units ≤ 65536) × (c .item-at .result .k ≤ 8) × (c .item-at .result .r ≤ 8)
   small p =
       let (b, a, e) = c .before .before .before .before .before .before .pre .2 in
@@ -124,7 +122,7 @@ ended : (c : tie.After-within Inv-loop2 μ-loop2 Inv-loop μ-loop Inv-items μ-i
 ended c =
     let i = at-within c in
     let v = c .before .before .loop2 in
-    reach-all (nOf i) (mOf i) (tableOf i) (bookOf i) (i .item-at .result) (at-start c .loop .start) (at-start c .loop .units) (v .ends) _ (v .j) (v .inv .0) (omega arith) (v .inv .1)
+    reach-all (device i) (bookOf i) (i .item-at .result) (at-start c .loop .start) (at-start c .loop .units) (v .ends) _ (v .j) (v .inv .0) (omega arith) (v .inv .1)
     (c .within .ensures)
 
 first-item-requires :
@@ -147,7 +145,7 @@ loop-holds : tie.Need-loop-holds Inv-loop2 μ-loop2 Inv-loop μ-loop Inv-items �
 loop-holds c =
     let i = c .before .before in (
       i .before .before .items .inv .0,
-      none-passed (nOf i) (mOf i) (tableOf i) (bookOf i) (i .item-at .result) _ _ _ (mask-of (c .before .of .ensures)) (c .lowest .ensures),
+      none-passed (device i) (bookOf i) (i .item-at .result) _ _ _ (mask-of (c .before .of .ensures)) (c .lowest .ensures),
     )
 
 of-requires-2 : tie.Need-of-requires-2 Inv-loop2 μ-loop2 Inv-loop μ-loop Inv-items μ-items
@@ -161,28 +159,19 @@ loop2-holds c =
     let S = c .before .before .before .loop .start in
     let i = c .before .before .before .before .before .before in (
       omega arith,
-      reach-start (nOf i) (mOf i) (tableOf i) (bookOf i) (i .item-at .result) S _ _ _ (omega arith) (c .before .of2 .ensures) (c .add .ensures),
+      reach-start (device i) (bookOf i) (i .item-at .result) S _ _ _ (omega arith) (c .before .of2 .ensures) (c .add .ensures),
     )
 
 add-byte-at : tie.Need-add-byte-at Inv-loop2 μ-loop2 Inv-loop μ-loop Inv-items μ-items
 add-byte-at c = omega (arith, inside (c .before .before .before .before .before .before .before .before .before))
-
-sub-byte-at : tie.Need-sub-byte-at Inv-loop2 μ-loop2 Inv-loop μ-loop Inv-items μ-items
-sub-byte-at c = omega (arith, inside (c .before .before .before .before .before .before .before .before .before))
-
-part-byte-at-start : tie.Need-part-byte-at-start Inv-loop2 μ-loop2 Inv-loop μ-loop Inv-items μ-items
-part-byte-at-start c = omega (arith, inside (c .before .before .before .before .before .before .before .before .before))
-
-part-byte-at-end : tie.Need-part-byte-at-end Inv-loop2 μ-loop2 Inv-loop μ-loop Inv-items μ-items
-part-byte-at-end c = omega (arith, inside (c .before .before .before .before .before .before .before .before .before))
 
 byte-at-requires : tie.Need-byte-at-requires Inv-loop2 μ-loop2 Inv-loop μ-loop Inv-items μ-items
 byte-at-requires c κs = search needs
 
 after-requires : tie.Need-after-requires Inv-loop2 μ-loop2 Inv-loop μ-loop Inv-items μ-items
 after-requires c κs =
-    let l = c .before .before .before .before .before .before .before .before in
-    omega (arith, small (l .before .before .before) (l .loop .inv .1), c .before .before .before .before .loop2 .inv .1 .count)
+    let l = c .before .before .before .before .before .before .before in
+    omega (arith, small (l .before .before .before) (l .loop .inv .1), c .before .before .before .loop2 .inv .1 .count)
 
 add-j : tie.Need-add-j Inv-loop2 μ-loop2 Inv-loop μ-loop Inv-items μ-items
 add-j c = omega arith
@@ -192,42 +181,27 @@ loop2-less c = omega arith
 
 loop2-again : tie.Need-loop2-again Inv-loop2 μ-loop2 Inv-loop μ-loop Inv-items μ-items
 loop2-again c =
-    let t = c .before .before .before .before in
+    let t = c .before .before .before in
     let v = t .before .loop2 in
     let l = t .before .before .before .before .before .loop in
     let i = t .before .before .before .before .before .before .before .before in
     let pre = i .before .before .before .before .before .before .pre in (
       omega arith,
-      reach-next (nOf i) (mOf i) (tableOf i) (bookOf i) (i .item-at .result) (l .start) (l .units) (v .ends) _ (v .j) _ (pre .0) (pre .1) (t .loop2-test .taken) (v .inv .1)
+      reach-next (device i) (bookOf i) (i .item-at .result) (l .start) (l .units) (v .ends) _ (v .j) _ (pre .0) (pre .1) (t .loop2-test .taken) (v .inv .1)
           (c .before .byte-at .ensures .0) (c .after .ensures),
     )
 
 within-requires : tie.Need-within-requires Inv-loop2 μ-loop2 Inv-loop μ-loop Inv-items μ-items
 within-requires c κs = search needs
 
-add-runs-back : tie.Need-add-runs-back Inv-loop2 μ-loop2 Inv-loop μ-loop Inv-items μ-items
-add-runs-back c = omega (arith, inside (at-within (c .before)))
-
-sub-runs-back : tie.Need-sub-runs-back Inv-loop2 μ-loop2 Inv-loop μ-loop Inv-items μ-items
-sub-runs-back c = omega (arith, inside (at-within (c .before)))
-
-part-runs-back-start :
-    tie.Need-part-runs-back-start Inv-loop2 μ-loop2 Inv-loop μ-loop Inv-items μ-items
-part-runs-back-start c = omega (arith, inside (at-within (c .before)))
-
-part-runs-back-end :
-    tie.Need-part-runs-back-end Inv-loop2 μ-loop2 Inv-loop μ-loop Inv-items μ-items
-part-runs-back-end c = omega (arith, inside (at-within (c .before)))
-
 runs-back-requires :
     tie.Need-runs-back-requires Inv-loop2 μ-loop2 Inv-loop μ-loop Inv-items μ-items
 runs-back-requires c κs =
-    let w = c .before .before in
-    let i = at-within w in
+    let i = at-within c in
     let pre = i .before .before .before .before .before .before .pre in
-    let l = w .before .before .before .before .before .loop-test .taken in
-    let s = small i (at-start w .loop .inv .1) in
-    (pre .0, pre .1, omega arith, simp (length-take, length-drop) (omega (arith, ended w .count)))
+    let l = c .before .before .before .before .before .loop-test .taken in
+    let s = small i (at-start c .loop .inv .1) in
+    (pre .0, pre .1, omega arith, omega (arith, ended c .count), inside i .1)
 
 is-empty-requires : tie.Need-is-empty-requires Inv-loop2 μ-loop2 Inv-loop μ-loop Inv-items μ-items
 is-empty-requires c κs = search needs
@@ -240,7 +214,7 @@ lowest-requires-2 c κs = search needs
 
 -- a start that was judged: its reverse run, and whether it has an end
 abbrev at-judged : tie.After-is-empty Inv-loop2 μ-loop2 Inv-loop μ-loop Inv-items μ-items → tie.After-within Inv-loop2 μ-loop2 Inv-loop μ-loop Inv-items μ-items
-at-judged c = c .before .before .before .before .before
+at-judged c = c .before .before .before
 
 loop-less : tie.Need-loop-less Inv-loop2 μ-loop2 Inv-loop μ-loop Inv-items μ-items
 loop-less c =
@@ -261,11 +235,11 @@ loop-again c =
     let empty = k .is-empty .ensures in (
       l .inv .0,
       ⊎-elim
-          (λ q. subst⁻¹ (Passed (nOf i) (mOf i) (tableOf i) (bookOf i) (i .item-at .result) _ _ _ _) (q .3)
-          (start-back (nOf i) (mOf i) (tableOf i) (bookOf i) (i .item-at .result) _ _ _ _ (l .inv .1) (few i) t _ (ended w) _ (run .runs-back .ensures) _ _ e
+          (λ q. subst⁻¹ (Passed (device i) (bookOf i) (i .item-at .result) _ _ _ _) (q .3)
+          (start-back (device i) (bookOf i) (i .item-at .result) _ _ _ _ (l .inv .1) (few i) t _ (ended w) _ (run .runs-back .ensures) _ _ e
           (c .lowest2 .ensures) (sym empty ∙ not-true _ (q .0 .taken)) (not-false _ (q .2 .left))))
-          (λ q. subst⁻¹ (Passed (nOf i) (mOf i) (tableOf i) (bookOf i) (i .item-at .result) _ _ _ _) (q .1)
-          (start-none (nOf i) (mOf i) (tableOf i) (bookOf i) (i .item-at .result) _ _ _ _ (l .inv .1) (few i) t _ (ended w) _ (run .runs-back .ensures) _ _ e
+          (λ q. subst⁻¹ (Passed (device i) (bookOf i) (i .item-at .result) _ _ _ _) (q .1)
+          (start-none (device i) (bookOf i) (i .item-at .result) _ _ _ _ (l .inv .1) (few i) t _ (ended w) _ (run .runs-back .ensures) _ _ e
           (c .lowest2 .ensures) (sym empty ∙ not-false _ (q .0 .left))))
           (c .before .before .if1 .came),
     )
@@ -283,7 +257,7 @@ starts-passed : (c : tie.After-loop Inv-loop2 μ-loop2 Inv-loop μ-loop Inv-item
 starts-passed c x f =
     let l = c .before .loop in
     let i = at-done c in
-    starts-done (nOf i) (mOf i) (tableOf i) (bookOf i) (i .item-at .result) _ _ _ _ (l .inv .1) (c .loop-test .left) x f
+    starts-done (device i) (bookOf i) (i .item-at .result) _ _ _ _ (l .inv .1) (c .loop-test .left) x f
 
 items-again : tie.Need-items-again Inv-loop2 μ-loop2 Inv-loop μ-loop Inv-items μ-items
 items-again c =
@@ -310,7 +284,7 @@ returns-2 c =
     let i = at-within w in
     let some = sym (k .is-empty .ensures) ∙ not-true _ (c .before .before .if1 .taken) in
     let (r, m) =
-    start-fails (nOf i) (mOf i) (tableOf i) (bookOf i) (i .item-at .result) _ _ _ _ (l .inv .1) (few i) (w .before .before .before .before .before .loop-test .taken)
+    start-fails (device i) (bookOf i) (i .item-at .result) _ _ _ _ (l .inv .1) (few i) (w .before .before .before .before .before .loop-test .taken)
     _ (ended w) _ (k .before .before .runs-back .ensures) some (not-true _ (c .if2 .taken)) _ (is i b a e) in
     found _ _ b a e _ _ (walk i b a e) q (i .before .items-test .taken) NoReversePlan (not-reversed _ _ r) _ m
 
@@ -341,19 +315,12 @@ first-wrong-spec =
     add-requires
     loop2-holds
     add-byte-at
-    sub-byte-at
-    part-byte-at-start
-    part-byte-at-end
     byte-at-requires
     after-requires
     add-j
     loop2-less
     loop2-again
     within-requires
-    add-runs-back
-    sub-runs-back
-    part-runs-back-start
-    part-runs-back-end
     runs-back-requires
     is-empty-requires
     without-requires

@@ -1,6 +1,5 @@
 -- `parts_at` meets its contract. Assumes nothing.
-use native.Mathlib.Omega.{arith}
-use Rattle.items.proofs.Laws.{in-book, read-parts}
+use Rattle.items.proofs.Laws.{read-parts, parts-none}
 use borrow.Author.Needs.{needs}
 use Rattle.items.proofs.parts_at.Statement.{statement}
 use Rattle.items.proofs.parts_at.Tie as tie
@@ -10,7 +9,7 @@ use Rattle.octets.proofs.byte_at.Reads as byte-at-reads
 
 -- past the end no item stands
 returns : tie.Need-returns
-returns c = record { past = λ l. absurd (omega arith); parts = λ h. absurd (omega (arith, in-book h)); next = λ h. absurd (omega (arith, in-book h)) }
+returns c = parts-none _ _ (c .if1 .taken)
 
 add-byte-at : tie.Need-add-byte-at
 add-byte-at c = search needs
@@ -39,7 +38,7 @@ add-next c = search needs
 returns-2 : tie.Need-returns-2
 returns-2 c =
     let a = c .before .before .before .before .args in
-    read-parts (a .book .now) (a .at) _ _ (c .before .byte-at .ensures .0) (c .byte-at2 .ensures .0)
+    read-parts (a .book .now) (a .at) _ _ (c .before .byte-at .ensures .0) (c .byte-at2 .ensures .0) (c .before .byte-at .ensures .1) (c .byte-at2 .ensures .1)
 
 pub parts-at-spec : {M : Type 1} → statement M
 parts-at-spec =

@@ -7,7 +7,7 @@ use Rattle.page_vectors.proofs.lend.Tie as tie
 use Rattle.page_vectors.proofs.lend.Reads as reads
 use Rattle.page_vectors.proofs.lend.Lts as lts
 use Rattle.page_vectors.proofs.print_answer.Reads as print-answer-reads
-use Rattle.page_vectors.proofs.size.Reads as size-reads
+use Rattle.vectors.proofs.size.Reads as size-reads
 use Rattle.paper.proofs.lay_out.Reads as lay-out-reads
 use Rattle.vectors.proofs.part.Reads as part-reads
 

@@ -17,7 +17,7 @@ use Rattle.reader.proofs.fill_table.Lts as lts
 use Rattle.items.proofs.first_move.Reads as first-move-reads
 use Rattle.octets.proofs.byte_at.Reads as byte-at-reads
 use Rattle.octets.proofs.u16_at.Reads as u16-at-reads
-use Rattle.reader.proofs.fill.clear.Reads as clear-reads
+use Rattle.moves.proofs.clear.Reads as clear-reads
 use Rattle.reader.proofs.fill.put_move.Reads as put-move-reads
 
 abbrev Inv-loop : tie.InvT-loop
@@ -77,7 +77,8 @@ loop-again c =
       omega (arith, more t),
       search needs,
       λ b a e.
-          entered a (v .2 b a e) _ _ (l .before .before .before .before .before .before .byte-at2 .ensures .0 ∙ m-at _ b e) (sym (t .before .u16-at .ensures .0) ∙ t .if1 .taken)
+          entered a (v .2 b a e) _ _ (l .before .before .before .before .before .before .byte-at2 .ensures .0 ∙ m-at _ b e)
+          (sym (t .before .u16-at .ensures .0) ∙ t .if1 .taken)
           (c .before .before .put-move .ensures),
     )
 
@@ -93,7 +94,8 @@ returns c =
       entries =
           λ b a e.
           all-entered a (v b a e) (λ k. c .if1 .left (c .before .u16-at .ensures .0 ∙ k))
-          ∙ table-is b _ _ _ _ (d .before .byte-at .ensures .0 ∙ n-at _ b e) (d .byte-at2 .ensures .0 ∙ m-at _ b e) (l .before .before .before .before .clear .ensures);
+          ∙ table-is b _ _ _ _ (d .before .byte-at .ensures .0 ∙ n-at _ b e) (d .byte-at2 .ensures .0 ∙ m-at _ b e)
+          (l .before .before .before .before .clear .ensures);
       begins = λ b a e. at-items a (v b a e) (λ k. c .if1 .left (c .before .u16-at .ensures .0 ∙ k));
     }
 

@@ -1,5 +1,5 @@
 -- `read` meets its contract. Assumes nothing.
-use mathlib.Core.Path.{sym, _∙_}
+use mathlib.Core.Path.{refl, sym, _∙_}
 use Prim.Native.Nat.{_<_}
 use native.Mathlib.Omega.{arith}
 use Rattle.base.specs.Lists.{Bytes}
@@ -8,8 +8,8 @@ use Rattle.base.proofs.Lists.{each-of}
 use Rattle.base.proofs.Sizes.{short-here, short-past}
 use Rattle.book.specs.Lent.{Lent, lent, sizes}
 use Rattle.book.proofs.Lent.{same-buffers}
-use Rattle.reader.proofs.Ways.{as-short, as-faulty, as-book}
-use Rattle.reader.proofs.Filling.{found, refused as fault-found}
+use Rattle.reader.proofs.Ways.{as-short, read-as, left-alone, when-fine}
+use Rattle.reader.proofs.Exactly.{book-read}
 use borrow.Author.Needs.{needs}
 use Rattle.reader.proofs.read.Statement.{statement}
 use Rattle.reader.proofs.read.Tie as tie
@@ -18,14 +18,14 @@ use Rattle.reader.proofs.read.Lts as lts
 use Rattle.reader.proofs.fill_slots.Reads as fill-slots-reads
 use Rattle.reader.proofs.fill_table.Reads as fill-table-reads
 use Rattle.reader.proofs.fill_weights.Reads as fill-weights-reads
-use Rattle.reader.proofs.judge.Reads as judge-reads
+use Rattle.reader.proofs.reading_of.Reads as reading-of-reads
 use Rattle.reader.proofs.refused.Reads as refused-reads
 
 -- ---- places: at entry, and where the lengths are tested
 abbrev entry : tie.After-slice-known3 → tie.After-shared-slice-known
 entry c = c .before .before .before
 
-abbrev tested : tie.After-judge → tie.After-slice-known3
+abbrev tested : tie.After-reading-of → tie.After-slice-known3
 tested c = c .before .before .before .before
 
 abbrev buffers : tie.After-slice-known3 → Lent
@@ -35,7 +35,7 @@ buffers c = let a = entry c .before .args in lent (a .table .now) (a .slots .now
 bytes : (c : tie.After-slice-known3) → Bytes (entry c .before .args .book .now)
 bytes c = each-of (λ x. x < 256) (entry c .before .args .book .now) 0 (λ i h. omega (arith, entry c .shared-slice-known .given i))
 
-long : (c : tie.After-judge) → LongEnough (sizes (buffers (tested c)))
+long : (c : tie.After-reading-of) → LongEnough (sizes (buffers (tested c)))
 long c = (c .before .before .before .if1 .left, (c .before .before .if2 .left, (c .before .if3 .left, tt)))
 
 refused-requires : tie.Need-refused-requires
@@ -61,17 +61,13 @@ returns-3 c =
     (short-past _ _ (c .before .before .before .if1 .left) ∙ (short-past _ _ (c .before .before .if2 .left) ∙ short-here _ _ (c .before .if3 .taken))) _
     (c .refused3 .ensures)
 
-judge-requires : tie.Need-judge-requires
-judge-requires c κs = search needs
+reading-of-requires : tie.Need-reading-of-requires
+reading-of-requires c κs = search needs
 
-enum-known-seen : tie.Need-enum-known-seen
-enum-known-seen c = search needs
-
-refused-requires-4 : tie.Need-refused-requires-4
-refused-requires-4 c κs = search needs
-
-enum-known-seen-2 : tie.Need-enum-known-seen-2
-enum-known-seen-2 c = search needs
+returns-4 : tie.Need-returns-4
+returns-4 c =
+    let j = c .before .before in
+    read-as _ (j .reading-of .ensures) (long j) _ (left-alone _ (j .reading-of .ensures) (c .if4 .taken))
 
 fill-table-requires : tie.Need-fill-table-requires
 fill-table-requires c κs = search needs
@@ -82,12 +78,6 @@ fill-slots-requires c κs = search needs
 fill-weights-requires : tie.Need-fill-weights-requires
 fill-weights-requires c κs = search needs
 
-returns-4 : tie.Need-returns-4
-returns-4 c =
-    let j = c .before .before .before .before in
-    as-faulty _ _ (bytes (tested j)) (long j) _ _
-    (fault-found _ _ _ (sym (j .judge .ensures .0) ∙ c .before .before .seen .given .1)) _ (c .refused4 .ensures)
-
 same-length : tie.Need-same-length
 same-length c = search needs
 
@@ -97,18 +87,29 @@ same-length-2 c = search needs
 same-length-3 : tie.Need-same-length-3
 same-length-3 c = search needs
 
+-- ---- places: the three fillings, the last first, and where the answer was found
+abbrev weighted : tie.After-slice-known6 → tie.After-fill-weights
+weighted c = c .before .before
+
+abbrev slotted : tie.After-fill-weights → tie.After-fill-slots
+slotted c = c .before .before .before .before
+
+abbrev entered : tie.After-fill-slots → tie.After-fill-table
+entered c = c .before .before .before .before
+
 returns-5 : tie.Need-returns-5
 returns-5 c =
-    let seen = c .before .before .before .before .before .before .before .before .before .before .before .before .before .seen2 .given in
-    let j = c .before .before .before .before .before .before .before .before .before .before .before .before .before .before .before in
-    let f = found _ (seen .0 .0) (bytes (tested j)) (sym (j .judge .ensures .0) ∙ seen .1) in
-    let t = c .before .before .before .before .before .before .before .before .before .before .fill-table .ensures in
-    let d = c .before .before .before .before .before .before .fill-slots .ensures in
-    let w = c .before .before .fill-weights .ensures in
-    let first = t .begins (f .book) (f .allowed) (f .bytes) in
-    as-book _ _ (bytes (tested j)) (long j) (f .book) (f .parsed) _ _ (f .result)
-    (same-buffers (t .entries (f .book) (f .allowed) (f .bytes)) (d .items (f .book) (f .allowed) (f .bytes) first)
-    (w .each (f .book) (f .allowed) (f .bytes)))
+    let w = weighted c in
+    let d = slotted w in
+    let t = entered d in
+    let j = t .before .before .before .before in
+    let l = buffers (tested j) in
+    let e = j .reading-of .ensures in
+    let f = book-read (read-as l e (long j) _ refl) (t .before .before .if4 .left) in
+    let first = t .fill-table .ensures .begins (f .book) (f .allowed) (f .bytes) in
+    read-as l e (long j) _
+    (same-buffers (t .fill-table .ensures .entries (f .book) (f .allowed) (f .bytes)) (d .fill-slots .ensures .items (f .book) (f .allowed) (f .bytes) first)
+    (w .fill-weights .ensures .each (f .book) (f .allowed) (f .bytes)) ∙ sym (when-fine _ l _ _ (long j) (f .book) (f .parsed)))
 
 pub read-spec : {M : Type 1} → statement M
 read-spec =
@@ -120,14 +121,11 @@ read-spec =
     returns-2
     refused-requires-3
     returns-3
-    judge-requires
-    enum-known-seen
-    refused-requires-4
-    enum-known-seen-2
+    reading-of-requires
+    returns-4
     fill-table-requires
     fill-slots-requires
     fill-weights-requires
-    returns-4
     same-length
     same-length-2
     same-length-3

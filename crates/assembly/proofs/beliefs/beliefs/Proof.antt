@@ -5,10 +5,10 @@ use native.Mathlib.Omega.{arith}
 use borrow.Author.Needs.{needs}
 use lib.Bits.{bitAnd}
 use lib.ListN.{getD, replicate}
-use Rattle.reversal.specs.Device.{Device, tabled}
+use Rattle.reversal.specs.Device.{Device}
 use Rattle.reversal.specs.Runs.{Run}
 use Rattle.states.specs.declared.StateSet.{StateSet}
-use Rattle.states.specs.StateSets.{afterIn, beforeIn}
+use Rattle.states.specs.StateSets.{deviceIn, afterIn, beforeIn}
 use Rattle.states.proofs.Laws.{after-limits, before-limits}
 use Rattle.runs.specs.Computed.{runOf}
 use Rattle.runs.proofs.Points.{last-is, command-is, percept-is}
@@ -26,20 +26,20 @@ use Rattle.states.proofs.StateSet.of.Reads as of-reads
 use Rattle.states.proofs.StateSet.within.Reads as within-reads
 
 abbrev Inv-loop : tie.InvT-loop
-Inv-loop run table n m i sets₀ j₀ sets j = Forward (tabled n m table) (runOf run) i j sets
+Inv-loop run book masks tabled n m i sets₀ j₀ sets j = Forward (deviceIn tabled book masks n m) (runOf run) i j sets
 
 abbrev μ-loop : tie.MeasureT-loop
-μ-loop run table n m i sets₀ j₀ sets j = i - j
+μ-loop run book masks tabled n m i sets₀ j₀ sets j = i - j
 
 abbrev Inv-loop2 : tie.InvT-loop2
-Inv-loop2 run table n m i sets₀ j₀ sets j = Backward (tabled n m table) (runOf run) i j sets
+Inv-loop2 run book masks tabled n m i sets₀ j₀ sets j = Backward (deviceIn tabled book masks n m) (runOf run) i j sets
 
 abbrev μ-loop2 : tie.MeasureT-loop2
-μ-loop2 run table n m i sets₀ j₀ sets j = j
+μ-loop2 run book masks tabled n m i sets₀ j₀ sets j = j
 
 -- ---- places: the call's start, the run's last point, and the head of each pass from the end of its turn
 abbrev start : tie.After-last-point Inv-loop μ-loop Inv-loop2 μ-loop2 → tie.Start Inv-loop μ-loop Inv-loop2 μ-loop2
-start c = c .before .before .before
+start c = c .before .before .before .before
 
 abbrev pointed : tie.At-loop Inv-loop μ-loop Inv-loop2 μ-loop2 → tie.After-last-point Inv-loop μ-loop Inv-loop2 μ-loop2
 pointed c = c .before .before
@@ -54,7 +54,7 @@ abbrev head2 : tie.After-command-at2 Inv-loop μ-loop Inv-loop2 μ-loop2 → tie
 head2 c = c .before .before .before
 
 abbrev device : tie.Start Inv-loop μ-loop Inv-loop2 μ-loop2 → Device
-device c = tabled (c .args .n) (c .args .m) (c .args .table .now)
+device c = deviceIn (c .args .tabled) (c .args .book .now) (c .args .masks .now) (c .args .n) (c .args .m)
 
 abbrev run-of : tie.Start Inv-loop μ-loop Inv-loop2 μ-loop2 → Run
 run-of c = runOf (c .args .run .now)
@@ -127,8 +127,8 @@ loop-again c =
     (c .before .percept-at2 .ensures ∙ percept-is (a .run .now) (l .loop .j + 1) (omega (arith, last-point)))
     (ap (λ (x : StateSet). x .mask) (c .within .ensures) ∙ ap (λ (x : StateSet). bitAnd (x .mask) seen) (t .after .ensures)
     ∙ ap (λ (x : ℕ). bitAnd x seen)
-    (ap (λ (x : StateSet). afterIn (a .n) (a .m) (a .table .now) sent (x .mask)) (t .before .before .of .ensures)
-    ∙ after-limits (a .n) (a .m) (a .table .now) sent _ (s .pre .0) (s .pre .1)))
+    (ap (λ (x : StateSet). afterIn (device s) sent (x .mask)) (t .before .before .of .ensures)
+    ∙ after-limits (device s) sent _ (s .pre .0) (s .pre .1)))
 
 loop2-holds : tie.Need-loop2-holds Inv-loop μ-loop Inv-loop2 μ-loop2
 loop2-holds c =
@@ -182,8 +182,8 @@ loop2-again c =
     backward-next (device s) (run-of s) _ (l .loop2 .inv) _ _ (omega arith)
     (t .command-at2 .ensures ∙ command-is (a .run .now) (l .loop2 .j - 1) (omega (arith, last-point, l .loop2 .inv)))
     (ap (λ (x : StateSet). x .mask) (c .before2 .ensures)
-    ∙ ap (λ (x : StateSet). beforeIn (a .n) (a .m) (a .table .now) sent (x .mask) (getD (l .loop2 .sets) (l .loop2 .j - 1 + 1) 0)) (t .before .of2 .ensures)
-    ∙ before-limits (a .n) (a .m) (a .table .now) sent _ _ (s .pre .0) (s .pre .1))
+    ∙ ap (λ (x : StateSet). beforeIn (device s) sent (x .mask) (getD (l .loop2 .sets) (l .loop2 .j - 1 + 1) 0)) (t .before .of2 .ensures)
+    ∙ before-limits (device s) sent _ _ (s .pre .0) (s .pre .1))
 
 returns : tie.Need-returns Inv-loop μ-loop Inv-loop2 μ-loop2
 returns c =

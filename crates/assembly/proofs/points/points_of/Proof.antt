@@ -3,7 +3,7 @@ use mathlib.Core.Path.{_≡_, subst}
 use Prim.Native.Nat.{ℕ, _-_, _≤_}
 use native.Mathlib.Omega.{arith}
 use Rattle.reversal.specs.Computed.Least.{Links}
-use Rattle.book.specs.Slots.{itemAt}
+use Rattle.assembly.specs.Items.{recorded}
 use Rattle.assembly.specs.Links.{linksOf, Numbered}
 use Rattle.assembly.proofs.Numbers.{numbered-start, numbered-next}
 use Rattle.assembly.proofs.points.points_of.Statement.{statement}
@@ -13,15 +13,15 @@ use Rattle.assembly.proofs.points.points_of.Lts as lts
 use Rattle.assembly.proofs.points.best.Reads as best-reads
 
 abbrev Inv-loop : tie.InvT-loop
-Inv-loop slots weights count run sets i fewest₀ items₀ j₀ fewest items j =
-    Numbered (linksOf (itemAt slots) weights run sets count) j fewest items × (j ≤ i)
+Inv-loop book places weights count run sets i fewest₀ items₀ j₀ fewest items j =
+    Numbered (linksOf (recorded book places) weights run sets count) j fewest items × (j ≤ i)
 
 abbrev μ-loop : tie.MeasureT-loop
-μ-loop slots weights count run sets i fewest₀ items₀ j₀ fewest items j = i - j
+μ-loop book places weights count run sets i fewest₀ items₀ j₀ fewest items j = i - j
 
 -- ---- places: the call's start, from the loop's head and from a turn's end
 abbrev start : tie.At-loop Inv-loop μ-loop → tie.Start Inv-loop μ-loop
-start c = c .before .before .before .before
+start c = c .before .before .before .before .before
 
 abbrev chosen : tie.After-struct-known Inv-loop μ-loop → tie.After-best Inv-loop μ-loop
 chosen c = c .before
@@ -30,13 +30,15 @@ abbrev head : tie.After-best Inv-loop μ-loop → tie.At-loop Inv-loop μ-loop
 head c = c .before .before .before
 
 abbrev links : tie.Start Inv-loop μ-loop → Links
-links c = linksOf (itemAt (c .args .slots .now)) (c .args .weights .now) (c .args .run .now) (c .args .sets .now) (c .args .count)
+links c =
+    let a = c .args in
+    linksOf (recorded (a .book .now) (a .places .now)) (a .weights .now) (a .run .now) (a .sets .now) (a .count)
 
 array-write-fewest : tie.Need-array-write-fewest Inv-loop μ-loop
 array-write-fewest c = omega arith
 
 loop-holds : tie.Need-loop-holds Inv-loop μ-loop
-loop-holds c = let s = c .before .before .before in (numbered-start (links s) (s .pre .2), omega arith)
+loop-holds c = let s = c .before .before .before .before in (numbered-start (links s) (s .pre .2), omega arith)
 
 add-best : tie.Need-add-best Inv-loop μ-loop
 add-best c = omega arith

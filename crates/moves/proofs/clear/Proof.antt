@@ -6,17 +6,17 @@ use native.Mathlib.Numerals.{add-one}
 use borrow.Author.Needs.{needs}
 use lib.ListN.{length}
 use Rattle.book.specs.Buffers.{zeroed}
-use Rattle.reader.proofs.Stores.{zeroed-more, zeroed-past}
-use Rattle.reader.proofs.fill.clear.Statement.{statement}
-use Rattle.reader.proofs.fill.clear.Tie as tie
-use Rattle.reader.proofs.fill.clear.Reads as reads
-use Rattle.reader.proofs.fill.clear.Lts as lts
+use Rattle.moves.proofs.Clearing.{zeroed-more, zeroed-past}
+use Rattle.moves.proofs.clear.Statement.{statement}
+use Rattle.moves.proofs.clear.Tie as tie
+use Rattle.moves.proofs.clear.Reads as reads
+use Rattle.moves.proofs.clear.Lts as lts
 
 abbrev Inv-loop : tie.InvT-loop
-Inv-loop table₀ n i₀ table i = (table ≡ zeroed i table₀) × (length table ≡ length table₀) × (i ≤ n)
+Inv-loop masks₀ n i₀ masks i = (masks ≡ zeroed i masks₀) × (length masks ≡ length masks₀) × (i ≤ n)
 
 abbrev μ-loop : tie.MeasureT-loop
-μ-loop table₀ n i₀ table i = n - i
+μ-loop masks₀ n i₀ masks i = n - i
 
 loop-holds : tie.Need-loop-holds Inv-loop μ-loop
 unfolding zeroed
@@ -26,13 +26,16 @@ same-length : tie.Need-same-length Inv-loop μ-loop
 same-length c = search needs
 
 returns : tie.Need-returns Inv-loop μ-loop
-returns c = c .before .before .loop .inv .0 ∙ zeroed-past (c .before .before .before .args .table .now) (c .before .before .loop .i) (c .before .before .before .args .n) (omega arith) (omega arith)
+returns c =
+    let l = c .before .before in
+    let a = l .before .args in
+    l .loop .inv .0 ∙ zeroed-past (a .masks .now) (l .loop .i) (a .n) (omega arith) (omega arith)
 
-mul-table : tie.Need-mul-table Inv-loop μ-loop
-mul-table c = search needs
+mul-masks : tie.Need-mul-masks Inv-loop μ-loop
+mul-masks c = search needs
 
-slice-write-table : tie.Need-slice-write-table Inv-loop μ-loop
-slice-write-table c = search needs
+slice-write-masks : tie.Need-slice-write-masks Inv-loop μ-loop
+slice-write-masks c = search needs
 
 add-i : tie.Need-add-i Inv-loop μ-loop
 add-i c = search needs
@@ -43,7 +46,7 @@ loop-less c = search needs
 loop-again : tie.Need-loop-again Inv-loop μ-loop
 loop-again c =
     let l = c .before .before .loop in
-    (rw (l .inv .0, add-one) (zeroed-more (c .before .before .before .args .table .now) (l .i)), search needs, search needs)
+    (rw (l .inv .0, add-one) (zeroed-more (c .before .before .before .args .masks .now) (l .i)), search needs, search needs)
 
 same-length-2 : tie.Need-same-length-2 Inv-loop μ-loop
 same-length-2 c = search needs
@@ -62,8 +65,8 @@ clear-spec =
     loop-holds
     same-length
     returns
-    mul-table
-    slice-write-table
+    mul-masks
+    slice-write-masks
     add-i
     loop-less
     loop-again

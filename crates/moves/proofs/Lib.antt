@@ -1,0 +1,5 @@
+pub mod Clearing
+pub mod Rows
+pub mod Indexing
+pub mod Device
+pub mod Cases

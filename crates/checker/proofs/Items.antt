@@ -1,8 +1,8 @@
 -- The loops over starts and commands: each way through the code, of whatever item stands at a place of the bytes. Assumes nothing.
 use mathlib.Core.Path.{_≡_, refl, sym, ap, ap₂, _∙_}
 use mathlib.Core.Bool.{Bool, true, false, not}
-use mathlib.Core.List.{List, [], _∷_, _++_}
-use Prim.Native.Nat.{ℕ, _+_, _^_, _≤_, _<_}
+use mathlib.Core.List.{List, [], _∷_, _++_, foldl}
+use Prim.Native.Nat.{ℕ, _+_, _%_, _^_, _≤_, _<_}
 use native.Mathlib.Numerals.{add-one}
 use native.Mathlib.Omega.{arith}
 use borrow.Author.Tests.{lt-ltb}
@@ -23,6 +23,7 @@ use Rattle.reversal.specs.Computed.Units.{backUnits, startMade, startsMade, ite
 use Rattle.states.specs.declared.StateSet.{StateSet}
 use Rattle.states.specs.StateSets.{setOf, afterIn}
 use Rattle.states.proofs.Laws.{after-limits}
+use Rattle.states.proofs.Visits.{present-low}
 use Rattle.items.specs.declared.Place.{Place}
 use Rattle.items.specs.Items.{Fields}
 use Rattle.checker.specs.declared.counted.Counted.{Counted}
@@ -100,15 +101,22 @@ module _ (d : Device) (s : List ℕ) (p : Place) where
       }
 
   -- ---- starts
-  pub none-passed : (units psi start : ℕ) → psi ≡ p .psi → start ≡ lowestIn psi → Passed units psi start units false
+  pub none-passed : (units starts : ℕ) → starts ≡ p .psi % 2 ^ d .n → Passed units starts (lowestIn starts) units false
   unfolding reverses effective startUsed itemMade
-  none-passed units psi start e l =
+  none-passed units starts e =
+      let there : (x : Item) → Fields s p x → present (d .n) starts ≡ present (d .n) (x .psi)
+      = λ x f. ap (present (d .n)) e ∙ present-low (d .n) (p .psi) ∙ ap (present (d .n)) (f .psi-is) in
       record {
-        next = l;
-        all-pass = λ x f. ap (gathered (allSoFar (startOk d x)) (d .n) true) (e ∙ f .psi-is) ∙ all-gathered (startOk d x) (d .n) (x .psi);
-        some-used = λ x f. ap (gathered (someSoFar (hasEnd d x)) (d .n) false) (e ∙ f .psi-is) ∙ any-gathered (hasEnd d x) (d .n) (x .psi);
-        count = λ x f. ap (λ (w : ℕ). units + startsMade d x (present (d .n) w)) (e ∙ f .psi-is);
+        next = refl;
+        all-pass = λ x f. ap (foldl (allSoFar (startOk d x)) true) (there x f) ∙ all-gathered (startOk d x) (d .n) (x .psi);
+        some-used = λ x f. ap (foldl (someSoFar (hasEnd d x)) false) (there x f) ∙ any-gathered (hasEnd d x) (d .n) (x .psi);
+        count = λ x f. ap (λ (l : List ℕ). units + startsMade d x l) (there x f);
       }
+
+  -- the number that the code has for the lowest start
+  pub at-lowest : {before rest units : ℕ} {used : Bool} → Passed before rest (lowestIn rest) units used → (start : ℕ) → start ≡ lowestIn rest
+      → Passed before rest start units used
+  at-lowest p start e = record { next = e; all-pass = p .all-pass; some-used = p .some-used; count = p .count }
 
   module _ (before rest start units : ℕ) {used : Bool} (passed : Passed before rest start units used) where
     module _ (x : Item) (q : Fields s p x) where

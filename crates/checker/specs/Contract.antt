@@ -2,7 +2,7 @@
 use mathlib.Core.Path.{_≡_}
 use mathlib.Core.Bool.{not}
 use mathlib.Core.List.{List}
-use Prim.Native.Nat.{ℕ, _+_, _≤_, _<_}
+use Prim.Native.Nat.{ℕ, _+_, _*_, _≤_, _<_}
 use lib.ListN.{length, drop}
 use Rattle.base.specs.Lists.{Each}
 use Rattle.base.specs.Sizes.{LongEnough}
@@ -35,6 +35,10 @@ use Rattle.checker.specs.Checks.{placeOf, withUnits}
 abbrev pub backOf : Device → Counted → List ℕ → ℕ → Back
 backOf d from commands goal =
     record { right = runsBack d (from .set .mask) commands goal; units = from .units + backUnits d (from .set .mask) commands }
+
+-- the answer as one number
+unfoldable pub asNumber : Back → ℕ
+asNumber b = 2 * b .units + pick (b .right) 1 0
 
 -- the lowest item that is not accepted, or their number
 unfoldable pub wrongItem : Book → ℕ

@@ -5,14 +5,14 @@ use counted::Counted;
 use reader::Reading;
 use states::StateSet;
 ghost use mathlib.Core.Path.{_≡_};
-ghost use Prim.Native.Nat.{_+_, _^_, _<_, _≤_};
-ghost use lib.ListN.{length, take, drop};
+ghost use Prim.Native.Nat.{_+_, _*_, _^_, _<_, _≤_};
+ghost use Rattle.octets.specs.Le.{bytesLe};
 ghost use Rattle.states.specs.StateSets.{deviceIn};
 ghost use Rattle.book.specs.Book.{WellFormed};
 ghost use Rattle.book.specs.Lent.{lent};
 ghost use Rattle.checker.specs.Reasons.{codeOf};
 ghost use Rattle.checker.specs.Checks.{withUnits};
-ghost use Rattle.checker.specs.Contract.{backOf, Judged, JudgedAs, CheckAs, CheckSmallAs};
+ghost use Rattle.checker.specs.Contract.{backOf, asNumber, Judged, JudgedAs, CheckAs, CheckSmallAs};
 
 // Why an item is not accepted.
 pub enum Reason {
@@ -52,8 +52,52 @@ struct Back {
     units: u64,
 }
 
-// A reverse run of the `left` commands that stand at a place of the book: no command left and the goal alone in the set, or a next command that every
-// state of the set can carry out, with the rest run from the set after it.
+// The answer as one number: twice the units, and 1 more where it is right.
+fn as_number(right: bool, units: u64) -> u64
+    requires { ⌜ 2 * units + 1 < 2 ^ 64 ⌝ }
+    ensures { λ r. ⌜ r ≡ asNumber (record { right = right; units = units }) ⌝ }
+{
+    if right {
+        return 2 * units + 1;
+    }
+    2 * units
+}
+
+// A reverse run of the `left` commands that are the lowest bytes of `rest`: no command left and the goal alone in the set, or a next command that every
+// state of the set can carry out, with the rest run from the set after it. Its answer is a number and each slice is lent by a reference to it, so that
+// the compiler makes a loop of the recursion.
+fn runs_on(
+    from: Counted,
+    book: &&[u8],
+    masks: &&[u64],
+    tabled: bool,
+    n: u64,
+    m: u64,
+    rest: u64,
+    left: usize,
+    goal: u64,
+) -> u64
+    requires { ⌜ (n ≤ 64) × (m ≤ 32) × (goal < 64) × (2 * (from .units + left) + 1 < 2 ^ 64) ⌝ }
+    ensures { λ r. ⌜ r ≡ asNumber (backOf (deviceIn tabled (now (now (book .entry))) (now (now (masks .entry))) n m) from (bytesLe left rest) goal) ⌝ }
+{
+    let set = from.set;
+    let units = from.units;
+    if left == 0 {
+        return as_number(set.is_only(goal), units);
+    }
+    let here = Counted {
+        set: set,
+        units: units,
+    };
+    let sent = here.sent(*book, *masks, tabled, n, m, rest % 256);
+    let next = sent.next;
+    if !sent.able {
+        return as_number(false, next.units);
+    }
+    runs_on(next, book, masks, tabled, n, m, rest / 256, left - 1, goal)
+}
+
+// The same with the answer taken apart.
 fn runs_back(
     from: Counted,
     book: &[u8],
@@ -61,35 +105,23 @@ fn runs_back(
     tabled: bool,
     n: u64,
     m: u64,
-    at: usize,
+    rest: u64,
     left: usize,
     goal: u64,
 ) -> Back
-    requires { ⌜ (n ≤ 64) × (m ≤ 32) × (goal < 64) × (from .units + left < 2 ^ 64) × (at + left ≤ length (now book)) ⌝ }
-    ensures { λ r. ⌜ r ≡ backOf (deviceIn tabled (now (book .entry)) (now (masks .entry)) n m) from (take left (drop at (now (book .entry)))) goal ⌝ }
+    requires { ⌜ (n ≤ 64) × (m ≤ 32) × (goal < 64) × (2 * (from .units + left) + 1 < 2 ^ 64) ⌝ }
+    ensures { λ r. ⌜ r ≡ backOf (deviceIn tabled (now (book .entry)) (now (masks .entry)) n m) from (bytesLe left rest) goal ⌝ }
 {
-    if left == 0 {
-        let set = from.set;
-        return Back {
-            right: set.is_only(goal),
-            units: from.units,
-        };
+    let number = runs_on(from, &book, &masks, tabled, n, m, rest, left, goal);
+    Back {
+        right: number % 2 == 1,
+        units: number / 2,
     }
-    let command = octets::byte_at(book, at);
-    let sent = from.sent(book, masks, tabled, n, m, command);
-    let next = sent.next;
-    if !sent.able {
-        return Back {
-            right: false,
-            units: next.units,
-        };
-    }
-    runs_back(next, book, masks, tabled, n, m, at + 1, left - 1, goal)
 }
 
 // The first item that is not accepted, from the book's bytes. For each start in psi, the ends in phi are run back together, and where there are
 // none the empty set, for its units alone; an item is effective if some start is used, that is, has an end. The search is left as soon as one
-// item fails.
+// item fails. The commands each way are read as one number.
 fn first_wrong(book: &[u8], masks: &[u64], tabled: bool, n: u64, m: u64) -> JudgementMade
     requires { ⌜ (n ≤ 64) × (m ≤ 32) × WellFormed (now book) ⌝ }
     ensures { λ r. ⌜ Judged (now (book .entry)) (deviceIn tabled (now (book .entry)) (now (masks .entry)) n m) r ⌝ }
@@ -99,20 +131,23 @@ fn first_wrong(book: &[u8], masks: &[u64], tabled: bool, n: u64, m: u64) -> Judg
     let mut units = 0;
     'items: while at < book.len() {
         let item = items::item_at(book, at);
+        let forward = octets::u64_at(book, item.forward);
+        let reverse = octets::u64_at(book, item.reverse);
         let mut used = false;
-        let mut starts = StateSet::of(item.psi);
-        let mut start = starts.lowest();
-        while start < n {
+        let mut starts = StateSet::of(item.psi).below(n);
+        while !starts.is_empty() {
+            let start = starts.lowest();
             let mut ends = Counted {
                 set: StateSet::of(0).add(start),
                 units: units,
             };
+            let mut rest = forward;
             for j in 0..item.k {
-                let command = octets::byte_at(book, item.forward + j);
-                ends = ends.after(book, masks, tabled, n, m, command);
+                ends = ends.after(book, masks, tabled, n, m, rest % 256);
+                rest = rest / 256;
             }
             ends = ends.within(item.phi);
-            let back = runs_back(ends, book, masks, tabled, n, m, item.reverse, item.r, start);
+            let back = runs_back(ends, book, masks, tabled, n, m, reverse, item.r, start);
             units = back.units;
             let set = ends.set;
             if !set.is_empty() {
@@ -122,8 +157,7 @@ fn first_wrong(book: &[u8], masks: &[u64], tabled: bool, n: u64, m: u64) -> Judg
                     break 'items;
                 }
             }
-            starts = starts.without(start);
-            start = starts.lowest();
+            starts = starts.without_lowest();
         }
         if !used {
             found = Judgement::Wrong(at as u64, Reason::NotEffective);

@@ -1,23 +1,26 @@
--- `StateSet::visit` meets its contract. The loop's invariant is that of every loop over the states present; the measure is the number of those left.
--- Assumes nothing.
-use mathlib.Core.Path.{_∙_}
+-- `StateSet::visit` meets its contract. The loop's invariant is that of every loop over the states present; what is left falls. Assumes nothing.
+use mathlib.Core.Path.{_≡_, ap, _∙_}
+use Prim.Native.Nat.{ℕ, _≤_, _<_}
+use native.Mathlib.Nat.{mod-lt}
 use native.Mathlib.Omega.{arith}
+use lib.Pow.{pow-pos}
 use borrow.Author.Needs.{needs}
-use Rattle.base.specs.Cardinality.{cardinality}
-use Rattle.base.proofs.Visiting.{Visiting, visit-next, visit-end, cardinality-less}
+use Rattle.base.specs.Masks.{lowestIn}
 use Rattle.reversal.specs.Device.{Device}
+use Rattle.states.specs.declared.Visited.{Visited}
 use Rattle.states.specs.StateSets.{visitedIn, deviceIn}
-use Rattle.states.proofs.Laws.{states-over, commands-over, gain, mask-of, visited-out, visited-all, visits-left}
+use Rattle.states.proofs.Laws.{states-over, commands-over, gain, mask-of, visited-out, visited-all, visited-low, visits-left}
+use Rattle.states.proofs.Visits.{some-left, none-left, Left, lowest-low, left-less, left-next, left-none}
 use Rattle.states.proofs.StateSet.visit.Statement.{statement}
 use Rattle.states.proofs.StateSet.visit.Tie as tie
 
 abbrev Inv-loop : tie.InvT-loop
-Inv-loop book masks tabled n m command set₀ able₀ visits₀ rest₀ state₀ set able visits rest state =
+Inv-loop book masks tabled n m command set₀ able₀ visits₀ rest₀ set able visits rest =
     let d = deviceIn tabled book masks n m in
-    Visiting (gain d command) n (visitedIn d command (rest₀ .mask)) (record { set = set; able = able; visits = visits }) (rest .mask) state
+    Left (gain d command) n (visitedIn d command (rest₀ .mask)) (record { set = set; able = able; visits = visits }) (rest .mask)
 
 abbrev μ-loop : tie.MeasureT-loop
-μ-loop book masks tabled n m command set₀ able₀ visits₀ rest₀ state₀ set able visits rest state = cardinality n (rest .mask)
+μ-loop book masks tabled n m command set₀ able₀ visits₀ rest₀ set able visits rest = rest .mask
 
 -- the device that is lent
 abbrev device : tie.Start Inv-loop μ-loop → Device
@@ -38,56 +41,83 @@ returns-2 c = c .outside-limits2 .ensures ∙ visited-out _ _ _ (commands-over _
 of-requires : tie.Need-of-requires Inv-loop μ-loop
 of-requires c κs = search needs
 
-lowest-requires : tie.Need-lowest-requires Inv-loop μ-loop
-lowest-requires c κs = search needs
+below-requires : tie.Need-below-requires Inv-loop μ-loop
+below-requires c κs = search needs
 
 loop-holds : tie.Need-loop-holds Inv-loop μ-loop
 loop-holds c =
     let a = c .before .before .before .before .before .before in
     record {
-      lowest = c .lowest .ensures;
+      low = rw (mask-of (c .below .ensures)) (mod-lt (a .args .self .mask) (pow-pos (a .args .n)));
       gives =
           rw (c .before .of .ensures)
-          (visited-all (device a) (a .args .command) (a .args .self .mask) (c .before .before .before .if1 .left) (c .before .before .if2 .left));
+          (visited-all (device a) (a .args .command) (c .below .result .mask) (c .before .before .before .if1 .left) (c .before .before .if2 .left));
     }
 
+-- a state is left
+module _ (c : tie.After-lowest Inv-loop μ-loop) where
+  abbrev loop : tie.At-loop Inv-loop μ-loop
+  loop = c .before .before .before
+
+  abbrev start : tie.Start Inv-loop μ-loop
+  start = loop .before .before .before .before .before .before .before
+
+  abbrev step : Visited → ℕ → Visited
+  step = gain (device start) (start .args .command)
+
+  few : start .args .n ≤ 64
+  few = loop .before .before .before .before .if1 .left
+
+  some : loop .loop .rest .mask ≡ 0 → ⊥
+  some = some-left (c .before .before .is-empty .ensures) (c .before .if3 .taken)
+
+  low : lowestIn (loop .loop .rest .mask) < start .args .n
+  low = lowest-low (start .args .n) _ few (loop .loop .inv .low) some
+
+is-empty-requires : tie.Need-is-empty-requires Inv-loop μ-loop
+is-empty-requires c κs = search needs
+
+lowest-requires : tie.Need-lowest-requires Inv-loop μ-loop
+lowest-requires c κs = search needs
+
 outcomes-at-requires : tie.Need-outcomes-at-requires Inv-loop μ-loop
-outcomes-at-requires c κs = omega arith
+outcomes-at-requires c κs = (omega (arith, low c, c .lowest .ensures), few c, loop c .before .before .before .if2 .left)
 
 with-requires : tie.Need-with-requires Inv-loop μ-loop
 with-requires c κs = search needs
 
 add-visits : tie.Need-add-visits Inv-loop μ-loop
 add-visits c =
-    let a = c .before .before .before .before .before .before .before .before .before .before in
-    let l = c .before .before .before .loop in
-    omega (arith, visits-left (device a) (a .args .command) (a .args .self .mask) _ (l .rest .mask) (omega arith) (omega arith) (l .inv .gives))
+    let k = c .before .before in
+    let l = loop k in
+    omega (
+      arith,
+      visits-left (device (start k)) (start k .args .command) (l .before .below .result .mask) _ (l .loop .rest .mask) (few k)
+          (l .before .before .before .if2 .left) (l .loop .inv .gives),
+    )
 
-without-requires : tie.Need-without-requires Inv-loop μ-loop
-without-requires c κs = search needs
-
-lowest-requires-2 : tie.Need-lowest-requires-2 Inv-loop μ-loop
-lowest-requires-2 c κs = search needs
+without-lowest-requires : tie.Need-without-lowest-requires Inv-loop μ-loop
+without-lowest-requires c κs = search needs
 
 loop-less : tie.Need-loop-less Inv-loop μ-loop
 loop-less c =
-    let l = c .before .before .before .before .before .loop in
-    cardinality-less _ (l .rest .mask) (l .state) _ (omega arith) (l .inv .lowest) (c .before .before .before .before .loop-test .taken)
-    (mask-of (c .before .without .ensures))
+    let k = c .before .before .before in
+    left-less (start k .args .n) _ (few k) (loop k .loop .inv .low) (some k) _ (mask-of (c .without-lowest .ensures))
 
 loop-again : tie.Need-loop-again Inv-loop μ-loop
 loop-again c =
-    let a = c .before .before .before .before .before .before .before .before .before .before .before .before in
-    let l = c .before .before .before .before .before .loop in
-    rw (c .before .before .with .ensures, c .before .before .before .outcomes-at .ensures)
-    (visit-next (gain (device a) (a .args .command)) (a .args .n) _ _ (l .rest .mask) (l .state) (l .inv) (omega arith) _ _
-    (c .before .before .before .before .loop-test .taken) (mask-of (c .before .without .ensures)) (c .lowest2 .ensures))
+    let k = c .before .before .before in
+    rw (c .before .with .ensures, c .before .before .outcomes-at .ensures)
+    (left-next (step k) (start k .args .n) _ _ _ (loop k .loop .inv) (few k) (some k) _ _ (k .lowest .ensures) (mask-of (c .without-lowest .ensures)))
 
 returns-3 : tie.Need-returns-3 Inv-loop μ-loop
 returns-3 c =
-    let a = c .before .before .before .before .before .before .before .before in
-    let l = c .before .loop in
-    visit-end (gain (device a) (a .args .command)) (a .args .n) _ _ (l .rest .mask) (l .state) (l .inv) (c .loop-test .left)
+    let l = c .before .before in
+    let a = l .before .before .before .before .before .before .before in
+    left-none (gain (device a) (a .args .command)) (a .args .n) _ _ _ (l .loop .inv) (l .before .before .before .before .if1 .left)
+    (none-left (c .before .is-empty .ensures) (c .if3 .left))
+    ∙ ap (visitedIn (device a) (a .args .command)) (mask-of (l .before .below .ensures))
+    ∙ visited-low (device a) (a .args .command) (a .args .self .mask) (l .before .before .before .before .if1 .left) (l .before .before .before .if2 .left)
 
 pub visit-spec : {M : Type 1} → statement M
 visit-spec =
@@ -100,13 +130,14 @@ visit-spec =
     outside-limits-requires-2
     returns-2
     of-requires
-    lowest-requires
+    below-requires
     loop-holds
+    is-empty-requires
+    lowest-requires
     outcomes-at-requires
     with-requires
     add-visits
-    without-requires
-    lowest-requires-2
+    without-lowest-requires
     loop-less
     loop-again
     returns-3)

@@ -1,5 +1,5 @@
-//! The verified library beside the plain program: the time of each call, how checking grows, and
-//! the library's stack use. Prints tables.
+//! The verified library beside the plain program and the fast one: the time of each call, how checking
+//! grows, and the library's stack use. Prints tables.
 
 use std::hint::black_box;
 use std::path::Path;
@@ -18,7 +18,7 @@ const BATCH: Duration = Duration::from_millis(2);
 /// Batches of each contender, in turn.
 const SAMPLES: usize = 51;
 
-/// What both are lent.
+/// What all are lent.
 struct Lent {
     book: Vec<u8>,
     run: Vec<u8>,
@@ -61,58 +61,56 @@ impl Lent {
     }
 }
 
-/// A call, of the library and of the plain program. Each gives its code.
-struct Pair {
+/// Makes a call and gives its code.
+type Make = fn(&mut Lent) -> u64;
+
+/// A call of the library, of the plain program and of the fast one.
+struct Call {
     name: &'static str,
-    verified: fn(&mut Lent) -> u64,
-    plain: fn(&mut Lent) -> u64,
+    verified: Make,
+    plain: Make,
+    fast: Make,
 }
 
-const CHECK: Pair = Pair {
-    name: "check",
-    verified: |l| calls::check(&l.book, &mut l.table, &mut l.slots, &mut l.weights).code,
-    plain: |l| rollback_plain::check(&l.book, &mut l.table, &mut l.slots, &mut l.weights).code,
-};
+/// The same call of each, which is `program` in it.
+macro_rules! call {
+    ($name:literal, $make:expr) => {
+        Call {
+            name: $name,
+            verified: {
+                use rollback::calls as program;
+                $make
+            },
+            plain: {
+                use rollback_plain as program;
+                $make
+            },
+            fast: {
+                use rollback_fast as program;
+                $make
+            },
+        }
+    };
+}
+
+const CHECK: Call = call!("check", |l| {
+    program::check(&l.book, &mut l.table, &mut l.slots, &mut l.weights).code
+});
 
 #[rustfmt::skip]
-const ASSEMBLE: Pair = Pair {
-    name: "assemble",
-    verified: |l| calls::assemble(
-        &l.book, &l.run, &mut l.table, &mut l.slots, &mut l.weights,
-        &mut l.plan, &mut l.legs,
-    ).code,
-    plain: |l| rollback_plain::assemble(
-        &l.book, &l.run, &mut l.table, &mut l.slots, &mut l.weights,
-        &mut l.plan, &mut l.legs,
-    ).code,
-};
+const ASSEMBLE: Call = call!("assemble", |l| program::assemble(
+    &l.book, &l.run, &mut l.table, &mut l.slots, &mut l.weights, &mut l.plan, &mut l.legs,
+).code);
 
 #[rustfmt::skip]
-const ASSEMBLE_SMALL: Pair = Pair {
-    name: "assemble_small",
-    verified: |l| calls::assemble_small(
-        &l.book, &l.run, &mut l.scratch, &mut l.plan, &mut l.legs,
-    ).code,
-    plain: |l| rollback_plain::assemble_small(
-        &l.book, &l.run, &mut l.scratch, &mut l.plan, &mut l.legs,
-    ).code,
-};
-
-#[rustfmt::skip]
-const PAIRS: [Pair; 7] = [
-    Pair {
-        name: "read",
-        verified: |l| calls::read(&l.book, &mut l.table, &mut l.slots, &mut l.weights).code,
-        plain: |l| rollback_plain::read(&l.book, &mut l.table, &mut l.slots, &mut l.weights).code,
-    },
+const CALLS: [Call; 7] = [
+    call!("read", |l| {
+        program::read(&l.book, &mut l.table, &mut l.slots, &mut l.weights).code
+    }),
     CHECK,
-    Pair {
-        name: "forecast",
-        verified: |l| black_box(calls::forecast(&l.book, 32)).code,
-        plain: |l| black_box(rollback_plain::forecast(&l.book, 32)).code,
-    },
+    call!("forecast", |l| black_box(program::forecast(&l.book, 32)).code),
     ASSEMBLE,
-    Pair {
+    Call {
         name: "assemble_legs",
         verified: |l| calls::assemble_legs(
             &l.book, &l.run, &mut l.table, &mut l.slots, &mut l.weights,
@@ -122,46 +120,39 @@ const PAIRS: [Pair; 7] = [
             &l.book, &l.run, &mut l.table, &mut l.slots, &mut l.weights,
             &mut l.plan, &mut l.plain_structs,
         ).code,
-    },
-    Pair {
-        name: "page",
-        verified: |l| calls::page(
+        fast: |l| rollback_fast::assemble_legs(
             &l.book, &l.run, &mut l.table, &mut l.slots, &mut l.weights,
-            &mut l.plan, &mut l.legs, &mut l.page,
-        ).assembly.code,
-        plain: |l| rollback_plain::page(
-            &l.book, &l.run, &mut l.table, &mut l.slots, &mut l.weights,
-            &mut l.plan, &mut l.legs, &mut l.page,
-        ).assembly.code,
+            &mut l.plan, &mut l.plain_structs,
+        ).code,
     },
-    Pair {
-        name: "write",
-        verified: |l| {
-            let [n, m, items] = l.device;
-            calls::write(n, m, items, &l.table, &l.slots, &l.weights, &mut l.out).code
-        },
-        plain: |l| {
-            let [n, m, items] = l.device;
-            rollback_plain::write(n, m, items, &l.table, &l.slots, &l.weights, &mut l.out).code
-        },
-    },
+    call!("page", |l| program::page(
+        &l.book, &l.run, &mut l.table, &mut l.slots, &mut l.weights,
+        &mut l.plan, &mut l.legs, &mut l.page,
+    ).assembly.code),
+    call!("write", |l| {
+        let [n, m, items] = l.device;
+        program::write(n, m, items, &l.table, &l.slots, &l.weights, &mut l.out).code
+    }),
 ];
 
-const LOOKUPS: [Pair; 2] = [
-    Pair {
-        name: "ridge, all 1,024 lookups",
-        verified: |_| every_entry(64, 16, |s, c| black_box(calls::ridge(s, c)).code),
-        plain: |_| every_entry(64, 16, |s, c| black_box(rollback_plain::ridge(s, c)).code),
-    },
-    Pair {
-        name: "portable, all 384 lookups",
-        verified: |_| every_entry(32, 12, |s, c| black_box(calls::portable(s, c)).code),
-        plain: |_| {
-            every_entry(32, 12, |s, c| {
-                black_box(rollback_plain::portable(s, c)).code
-            })
-        },
-    },
+const LOOKUPS: [Call; 2] = [
+    call!("ridge, all 1,024 lookups", |_| {
+        every_entry(64, 16, |s, c| black_box(program::ridge(s, c)).code)
+    }),
+    call!("portable, all 384 lookups", |_| {
+        every_entry(32, 12, |s, c| black_box(program::portable(s, c)).code)
+    }),
+];
+
+/// Assembling with a scratch, by the library and by the plain program.
+#[rustfmt::skip]
+const ASSEMBLE_SMALL: [Make; 2] = [
+    |l| calls::assemble_small(
+        &l.book, &l.run, &mut l.scratch, &mut l.plan, &mut l.legs,
+    ).code,
+    |l| rollback_plain::assemble_small(
+        &l.book, &l.run, &mut l.scratch, &mut l.plan, &mut l.legs,
+    ).code,
 ];
 
 /// Each entry looked up. Numbers and result are opaque, so that no program leaves the mask out.
@@ -174,7 +165,7 @@ fn every_entry(states: u64, commands: u64, lookup: fn(u64, u64) -> u64) -> u64 {
 }
 
 /// The time of one batch.
-fn batch(call: fn(&mut Lent) -> u64, lent: &mut Lent, calls: u32) -> Duration {
+fn batch(call: Make, lent: &mut Lent, calls: u32) -> Duration {
     let start = Instant::now();
     for _ in 0..calls {
         assert_eq!(black_box(call(black_box(lent))), 0);
@@ -183,7 +174,7 @@ fn batch(call: fn(&mut Lent) -> u64, lent: &mut Lent, calls: u32) -> Duration {
 }
 
 /// So many calls that a batch takes long enough.
-fn batch_size(call: fn(&mut Lent) -> u64, lent: &mut Lent) -> u32 {
+fn batch_size(call: Make, lent: &mut Lent) -> u32 {
     let mut calls = 1;
     while batch(call, lent, calls) < BATCH {
         calls *= 2;
@@ -213,7 +204,7 @@ impl Times {
 }
 
 /// All contenders, batch by batch in turn, each first as often as the others.
-fn in_turn<const N: usize>(calls: [fn(&mut Lent) -> u64; N], lent: &mut Lent) -> [Times; N] {
+fn in_turn<const N: usize>(calls: [Make; N], lent: &mut Lent) -> [Times; N] {
     let sizes = calls.map(|call| batch_size(call, lent));
     let mut times = [const { Vec::new() }; N];
     for sample in 0..SAMPLES {
@@ -229,26 +220,23 @@ fn in_turn<const N: usize>(calls: [fn(&mut Lent) -> u64; N], lent: &mut Lent) ->
     })
 }
 
-/// Both; then a line of a table.
-fn compare(pair: &Pair, lent: &mut Lent, title: &str) {
-    let [verified, plain] = in_turn([pair.verified, pair.plain], lent);
-    let ratio = verified.at(0.5) / plain.at(0.5);
+/// All three; then a line of a table.
+fn compare(call: &Call, lent: &mut Lent, title: &str) {
+    let [verified, plain, fast] = in_turn([call.verified, call.plain, call.fast], lent);
+    let [to_plain, to_fast] = [&plain, &fast].map(|other| verified.at(0.5) / other.at(0.5));
     println!(
-        "| {title} | {} | {} | {ratio:.2} |",
+        "| {title} | {} | {} | {to_plain:.2} | {} | {to_fast:.2} |",
         verified.shown(),
-        plain.shown()
+        plain.shown(),
+        fast.shown()
     );
 }
 
 /// Assembling with a scratch beside assembling with a table, and beside the plain program's; then a line
 /// of a table.
 fn compare_small(lent: &mut Lent, title: &str) {
-    let calls = [
-        ASSEMBLE_SMALL.verified,
-        ASSEMBLE.verified,
-        ASSEMBLE_SMALL.plain,
-    ];
-    let [small, assemble, plain] = in_turn(calls, lent);
+    let [small, plain] = ASSEMBLE_SMALL;
+    let [small, assemble, plain] = in_turn([small, ASSEMBLE.verified, plain], lent);
     let [to_assemble, to_plain] = [&assemble, &plain].map(|other| small.at(0.5) / other.at(0.5));
     println!(
         "| {title} | {} | {} | {to_assemble:.1} | {} | {to_plain:.2} |",
@@ -260,8 +248,8 @@ fn compare_small(lent: &mut Lent, title: &str) {
 
 fn heading(title: &str, first: &str) {
     println!("\n## {title}\n");
-    println!("| {first} | verified: median (10 % to 90 %) | plain | ratio |");
-    println!("|---|---|---|---|");
+    println!("| {first} | verified: median (10 % to 90 %) | plain | ratio | fast | ratio |");
+    println!("|---|---|---|---|---|---|");
 }
 
 fn growth(title: &str, first: &str, sizes: &[usize], book: fn(usize) -> Vec<u8>) {
@@ -316,24 +304,24 @@ fn main() {
         ("c, ridge", ridge_book(), ridge_run()),
         ("d, Q", q_book(), q5_run()),
     ];
-    println!("Times of one call, from {SAMPLES} batches of each program in turn, both built for");
+    println!("Times of one call, from {SAMPLES} batches of each program in turn, all built for");
     println!("release, on the same buffers, which are not cleared between calls.");
-    heading("The library and the plain program", "book, call");
+    heading(
+        "The library, the plain program and the fast one",
+        "book, call",
+    );
     for (name, book, run) in &books {
         let mut lent = Lent::new(book.clone(), run.clone());
-        for pair in &PAIRS {
-            compare(pair, &mut lent, &format!("{name}: {}", pair.name));
+        for call in &CALLS {
+            compare(call, &mut lent, &format!("{name}: {}", call.name));
         }
     }
     let mut lent = Lent::new(q_book(), q5_run());
-    for pair in &LOOKUPS {
-        compare(pair, &mut lent, pair.name);
+    for call in &LOOKUPS {
+        compare(call, &mut lent, call.name);
     }
     println!("\n## Assembling with a scratch\n");
-    println!(
-        "| book | {} | {} | ratio | {} plain | ratio |",
-        ASSEMBLE_SMALL.name, ASSEMBLE.name, ASSEMBLE_SMALL.name
-    );
+    println!("| book | assemble_small | assemble | ratio | assemble_small plain | ratio |");
     println!("|---|---|---|---|---|---|");
     for (name, book, run) in &books {
         compare_small(&mut Lent::new(book.clone(), run.clone()), name);

@@ -2,121 +2,25 @@
 //! and every byte of every buffer. `ROLLBACK_SEED` is the first seed (0), `ROLLBACK_COUNT` the number of
 //! inputs (100,000).
 
-use std::env;
-
 use rollback::calls as verified;
-use rollback_cases::{input, Input};
+use rollback_cases::{answers, input, number, After, Input};
 use rollback_plain as plain;
 
-/// What a call answers and leaves behind.
-#[derive(Default)]
-struct After {
-    call: &'static str,
-    result: Vec<u64>,
-    table: Vec<u64>,
-    slots: Vec<u8>,
-    weights: Vec<u16>,
-    plan: Vec<u8>,
-    legs: Vec<u8>,
-    page: Vec<u8>,
-    /// Empty where it is free.
-    scratch: Vec<u64>,
-    out: Vec<u8>,
-}
+answers!(by_library, verified);
+answers!(by_plain_program, plain);
 
-impl After {
-    /// A call's lent buffers before it.
-    fn lent(call: &'static str, input: &Input) -> After {
-        After {
-            call,
-            table: input.table.clone(),
-            slots: input.slots.clone(),
-            weights: input.weights.clone(),
-            plan: input.plan.clone(),
-            legs: input.legs.clone(),
-            page: input.page.clone(),
-            ..After::default()
-        }
-    }
-
-    /// Where the two differ.
-    fn against(&self, other: &After) -> Vec<String> {
-        fn part<T: PartialEq + std::fmt::Debug>(name: &str, a: &[T], b: &[T]) -> Option<String> {
-            assert_eq!(a.len(), b.len());
-            let at = (0..a.len()).find(|&at| a[at] != b[at])?;
-            Some(format!(
-                "{name} at {at}: verified {:?}, plain {:?}",
-                a[at], b[at]
-            ))
-        }
-        let parts = [
-            part("result", &self.result, &other.result),
-            part("table", &self.table, &other.table),
-            part("slots", &self.slots, &other.slots),
-            part("weights", &self.weights, &other.weights),
-            part("plan", &self.plan, &other.plan),
-            part("legs", &self.legs, &other.legs),
-            part("page", &self.page, &other.page),
-            part("scratch", &self.scratch, &other.scratch),
-            part("out", &self.out, &other.out),
-        ];
-        parts.into_iter().flatten().collect()
-    }
-}
-
-/// All calls of a program on one input.
-macro_rules! answers {
+/// The same for assembling with a scratch.
+macro_rules! answers_small {
     ($name:ident, $program:ident) => {
-        fn $name(input: &Input) -> [After; 10] {
+        fn $name(input: &Input) -> After {
             let (book, run) = (&input.book, &input.run);
-            let mut read = After::lent("read", input);
-            let a = &mut read;
-            let r = $program::read(book, &mut a.table, &mut a.slots, &mut a.weights);
-            a.result = vec![r.code, r.place, r.n, r.m, r.items];
-
-            let mut check = After::lent("check", input);
-            let a = &mut check;
-            let r = $program::check(book, &mut a.table, &mut a.slots, &mut a.weights);
-            a.result = vec![r.code, r.place, r.n, r.m, r.items, r.units];
-
-            let r = $program::forecast(book, input.i);
-            let forecast = After {
-                call: "forecast",
-                result: vec![r.code, r.place, r.units, r.plan_bytes, r.legs],
-                ..After::default()
-            };
-
-            let mut assemble = After::lent("assemble", input);
-            let a = &mut assemble;
-            let (table, slots, weights) = (&mut a.table, &mut a.slots, &mut a.weights);
-            let (plan, legs) = (&mut a.plan, &mut a.legs);
-            let r = $program::assemble(book, run, table, slots, weights, plan, legs);
-            a.result = vec![r.code, r.place, r.commands, r.legs, r.sum];
-            a.result.extend(r.fewest.map(u64::from));
-
-            let mut assemble_legs = After::lent("assemble_legs", input);
-            let a = &mut assemble_legs;
-            let mut legs: Vec<$program::Leg> = (input.leg_structs.iter())
-                .map(|&[item, upper, lower]| $program::Leg { item, upper, lower })
-                .collect();
-            let (table, slots, weights) = (&mut a.table, &mut a.slots, &mut a.weights);
-            let plan = &mut a.plan;
-            let r = $program::assemble_legs(book, run, table, slots, weights, plan, &mut legs);
-            a.result = vec![r.code, r.place, r.commands, r.legs, r.sum];
-            a.result.extend(r.fewest.map(u64::from));
-            a.legs = legs
-                .iter()
-                .flat_map(|leg| [leg.item, leg.upper, leg.lower])
-                .collect();
-
-            let mut assemble_small = After {
+            let mut a = After {
                 call: "assemble_small",
                 scratch: input.scratch.clone(),
                 plan: input.plan.clone(),
                 legs: input.legs.clone(),
                 ..After::default()
             };
-            let a = &mut assemble_small;
             let r = $program::assemble_small(book, run, &mut a.scratch, &mut a.plan, &mut a.legs);
             a.result = vec![r.code, r.place, r.commands, r.legs, r.sum];
             a.result.extend(r.fewest.map(u64::from));
@@ -124,56 +28,12 @@ macro_rules! answers {
                 // Its 64 masks are free.
                 a.scratch.drain(..64);
             }
-
-            let mut page = After::lent("page", input);
-            let a = &mut page;
-            let (table, slots, weights) = (&mut a.table, &mut a.slots, &mut a.weights);
-            let (plan, legs) = (&mut a.plan, &mut a.legs);
-            let r = $program::page(book, run, table, slots, weights, plan, legs, &mut a.page);
-            let length = r.length;
-            let r = r.assembly;
-            a.result = vec![r.code, r.place, r.commands, r.legs, r.sum, length];
-            a.result.extend(r.fewest.map(u64::from));
-
-            let out = input.out.clone();
-            let mut write = After {
-                call: "write",
-                out,
-                ..After::default()
-            };
-            let (n, m, items) = (input.n, input.m, input.items);
-            let (table, slots) = (&input.write_table, &input.write_slots);
-            let weights = &input.write_weights;
-            let r = $program::write(n, m, items, table, slots, weights, &mut write.out);
-            write.result = vec![r.code, r.place, r.length];
-
-            let looked_up = |call, r: $program::Lookup| After {
-                call,
-                result: vec![r.code, r.place, r.mask],
-                ..After::default()
-            };
-            let (state, command) = input.ridge;
-            let ridge = looked_up("ridge", $program::ridge(state, command));
-            let (state, command) = input.portable;
-            let portable = looked_up("portable", $program::portable(state, command));
-
-            [
-                read,
-                check,
-                forecast,
-                assemble,
-                assemble_legs,
-                assemble_small,
-                page,
-                write,
-                ridge,
-                portable,
-            ]
+            a
         }
     };
 }
-answers!(by_library, verified);
-answers!(by_plain_program, plain);
+answers_small!(small_by_library, verified);
+answers_small!(small_by_plain_program, plain);
 
 const ALL: [u64; 14] = [0, 1, 2, 3, 4, 5, 6, 7, 8, 9, 10, 11, 12, 13];
 
@@ -184,15 +44,15 @@ const CODES: [(&str, &[u64]); 10] = [
     ("forecast", &[0, 2, 3, 4, 5, 6, 7, 9, 13]),
     ("assemble", &ALL),
     ("assemble_legs", &ALL),
-    ("assemble_small", &ALL),
     ("page", &ALL),
     ("write", &[0, 1, 5, 7]),
     ("ridge", &[0, 5]),
     ("portable", &[0, 5]),
+    ("assemble_small", &ALL),
 ];
 
 /// The units that checking made and the plan, against the forecast for runs as long as the one at hand.
-fn keeps_to_the_forecast(input: &Input, answers: &[After; 10]) {
+fn keeps_to_the_forecast(input: &Input, answers: &[After; 9]) {
     let [read, check, _, assemble, ..] = answers;
     let (seed, i) = (input.seed, input.run.get(4).map_or(0, |&i| u64::from(i)));
     let f = verified::forecast(&input.book, i);
@@ -283,10 +143,6 @@ fn answers_as_the_first_form(input: &Input, with_lengths_at_hand: &After) {
     }
 }
 
-fn number(name: &str, usual: u64) -> u64 {
-    env::var(name).map_or(usual, |value| value.parse().expect(name))
-}
-
 #[test]
 fn the_library_answers_as_the_plain_program() {
     let first = number("ROLLBACK_SEED", 0);
@@ -297,7 +153,9 @@ fn the_library_answers_as_the_plain_program() {
         let given = input(seed);
         let before = given.clone();
         let (library, plain) = (by_library(&given), by_plain_program(&given));
-        for (call, (v, p)) in library.iter().zip(&plain).enumerate() {
+        let small = (small_by_library(&given), small_by_plain_program(&given));
+        let pairs = library.iter().zip(&plain).chain([(&small.0, &small.1)]);
+        for (call, (v, p)) in pairs.enumerate() {
             let differences = v.against(p);
             for difference in differences.iter().filter(|_| differ < 20) {
                 println!("seed {seed}, {}: {difference}", v.call);
@@ -307,7 +165,7 @@ fn the_library_answers_as_the_plain_program() {
             met[call][p.result[0] as usize] += 1;
         }
         keeps_to_the_forecast(&given, &library);
-        answers_as_the_first_form(&given, &library[5]);
+        answers_as_the_first_form(&given, &small.0);
         // What a call only reads stays too.
         assert!(
             given == before,

@@ -1,15 +1,17 @@
 //! Cases for programs of docs/FORMAT.md: the answers of a second
 //! program (`vectors`), random inputs that one seed makes again (`random`),
-//! and books for measuring (`books`).
+//! what a program answers to them (`answers`), and books for measuring (`books`).
 
 #![forbid(unsafe_code)]
 
+pub mod answers;
 pub mod books;
 pub mod device;
 pub mod random;
 pub mod rng;
 pub mod vectors;
 
+pub use answers::{number, After};
 pub use books::{
     branching_book, branching_run, grown_book, largest_book, largest_run, q5_run, q_book,
     ridge_book, ridge_run,

@@ -1,0 +1,146 @@
+//! The program against the plain one: on all cases of the vectors, on the benchmark's books and on
+//! random inputs, every result and every byte of every buffer. `ROLLBACK_SEED` is the first seed (0),
+//! `ROLLBACK_COUNT` the number of random inputs (30,000).
+
+use rollback_cases::{
+    answers, assemble_cases, book_cases, forecast_cases, input, number, page_cases, write_cases,
+    Input,
+};
+use rollback_cases::{
+    branching_book, branching_run, largest_book, largest_run, ridge_book, ridge_run,
+};
+use rollback_fast as fast;
+use rollback_plain as plain;
+
+answers!(by_fast_program, fast);
+answers!(by_plain_program, plain);
+
+fn same(input: &Input, name: &str) {
+    for (f, p) in by_fast_program(input).iter().zip(&by_plain_program(input)) {
+        assert_eq!(f.against(p), [""; 0], "{name}, {}", f.call);
+    }
+}
+
+/// All lent buffers with the stated lengths.
+fn lent() -> Input {
+    Input {
+        table: vec![7; 2048],
+        slots: vec![8; 2176],
+        weights: vec![9; 32],
+        plan: vec![201; 256],
+        legs: vec![202; 96],
+        leg_structs: vec![[203; 3]; 32],
+        page: vec![90; 1312],
+        ..input(0)
+    }
+}
+
+#[test]
+fn vectors() {
+    for (number, case) in book_cases().into_iter().enumerate() {
+        let input = Input {
+            book: case.book,
+            table: case.table,
+            slots: case.slots,
+            weights: case.weights,
+            ..lent()
+        };
+        same(&input, &format!("book {number}"));
+    }
+    for (number, case) in forecast_cases().into_iter().enumerate() {
+        let input = Input {
+            book: case.book,
+            i: case.i,
+            ..lent()
+        };
+        same(&input, &format!("forecast {number}"));
+    }
+    for (number, case) in assemble_cases().into_iter().enumerate() {
+        let input = Input {
+            book: case.book,
+            run: case.run,
+            ..lent()
+        };
+        same(&input, &format!("plan {number}"));
+    }
+    for (number, case) in page_cases().into_iter().enumerate() {
+        let input = Input {
+            book: case.book,
+            run: case.run,
+            table: case.table,
+            slots: case.slots,
+            weights: case.weights,
+            plan: case.plan,
+            legs: case.legs,
+            page: case.page,
+            ..lent()
+        };
+        same(&input, &format!("page {number}"));
+    }
+    for (number, case) in write_cases().into_iter().enumerate() {
+        let input = Input {
+            n: case.n,
+            m: case.m,
+            items: case.items,
+            write_table: case.table,
+            write_slots: case.slots,
+            write_weights: case.weights,
+            out: case.out,
+            ..lent()
+        };
+        same(&input, &format!("writing {number}"));
+    }
+}
+
+#[test]
+fn measured_books() {
+    let books = [
+        (largest_book(), largest_run()),
+        (branching_book(), branching_run()),
+        (ridge_book(), ridge_run()),
+    ];
+    for (number, (book, run)) in books.into_iter().enumerate() {
+        let mut given = Input {
+            book,
+            run,
+            ..lent()
+        };
+        same(&given, &format!("book {number}"));
+        // Written back.
+        let (table, slots, weights) = (&mut given.table, &mut given.slots, &mut given.weights);
+        let read = fast::read(&given.book, table, slots, weights);
+        let given = Input {
+            n: read.n,
+            m: read.m,
+            items: read.items,
+            write_table: given.table.clone(),
+            write_slots: given.slots.clone(),
+            write_weights: given.weights.clone(),
+            out: vec![90; 31_178],
+            ..given
+        };
+        same(&given, &format!("book {number}"));
+        let out = &by_fast_program(&given)[6].out;
+        assert_eq!(out[..given.book.len()], given.book, "book {number}");
+    }
+}
+
+#[test]
+fn lookups() {
+    for state in 0..70 {
+        for command in 0..20 {
+            assert_eq!(fast::ridge(state, command), plain::ridge(state, command));
+            let found = fast::portable(state, command);
+            assert_eq!(found, plain::portable(state, command));
+        }
+    }
+}
+
+#[test]
+fn random_inputs() {
+    let first = number("ROLLBACK_SEED", 0);
+    let count = number("ROLLBACK_COUNT", 30_000);
+    for seed in first..first + count {
+        same(&input(seed), &format!("seed {seed}"));
+    }
+}

@@ -4,10 +4,9 @@ use mathlib.Core.Bool.{Bool, true, false}
 use mathlib.Core.List.{List, [], _∷_, foldl, foldl-append}
 use Prim.Native.Nat.{ℕ, zero, suc, _≤_, _<_}
 use native.Mathlib.Omega.{arith}
-use lib.ListN.{length}
 use Rattle.base.specs.Tests.{pick, both, imp}
 use Rattle.base.specs.Bounded.{all, any}
-use Rattle.base.specs.Cardinality.{member, present, cardinality}
+use Rattle.base.specs.Cardinality.{member, present}
 use Rattle.base.specs.Masks.{lowestIn, without}
 use Rattle.base.proofs.Tests.{pick-self, both-true}
 use Rattle.base.proofs.Present.{present-end, present-next}
@@ -34,12 +33,6 @@ module _ {A : Type 0} (step : A → ℕ → A) (n : ℕ) where
 
     pub visit-end : n ≤ next → a ≡ whole
     visit-end l = sym (ap (foldl step a) (present-end n rest (rw (v .lowest) at l))) ∙ v .gives
-
--- a visit leaves fewer states
-pub cardinality-less : (n rest next rest′ : ℕ) → n ≤ 64 → next ≡ lowestIn rest → next < n → rest′ ≡ without rest next → cardinality n rest′ < cardinality n rest
-cardinality-less n rest next rest′ few e l f =
-    let g : rest′ ≡ without rest (lowestIn rest) = f ∙ ap (without rest) e in
-    omega (arith, ap length (present-next n rest few (omega arith)), ap (cardinality n) g)
 
 -- what a search over all states below a bound gives, where those that are not in w change nothing
 pub gathered-is : {A : Type 0} (step : A → ℕ → A) (whole : ℕ → A) (w n : ℕ)

@@ -23,7 +23,7 @@ use Rattle.reversal.specs.Computed.Units.{backUnits, startMade, startsMade, ite
 use Rattle.states.specs.declared.StateSet.{StateSet}
 use Rattle.states.specs.StateSets.{setOf, afterIn}
 use Rattle.states.proofs.Laws.{after-limits}
-use Rattle.states.proofs.Visits.{present-low}
+use Rattle.base.proofs.Visits.{present-low}
 use Rattle.items.specs.declared.Place.{Place}
 use Rattle.items.specs.Items.{Fields}
 use Rattle.checker.specs.declared.counted.Counted.{Counted}

@@ -23,13 +23,12 @@ use Rattle.reversal.specs.Computed.Sets.{reverses, effective}
 use Rattle.reversal.specs.Computed.Units.{itemMade}
 use Rattle.states.specs.StateSets.{deviceIn}
 use Rattle.states.proofs.Laws.{mask-of}
-use Rattle.states.proofs.Visits.{some-left, none-left, lowest-low, left-less, none-low}
+use Rattle.base.proofs.Visits.{some-left, none-left, lowest-low, left-less, none-low}
 use Rattle.book.specs.Book.{Book, AllowedBook, bytesOf}
 use Rattle.states.specs.declared.StateSet.{StateSet}
 use Rattle.items.specs.declared.Place.{Place}
 use Rattle.items.specs.Items.{ItemStands, Fields}
 use Rattle.items.proofs.Laws.{allowed}
-use Rattle.checker.specs.declared.counted.Counted.{Counted}
 use Rattle.checker.specs.declared.Reason.the-variants.{NoReversePlan, NotEffective}
 use Rattle.checker.specs.declared.Judgement.{Judgement}
 use Rattle.checker.specs.declared.Judgement.the-variants.{AllAccepted}

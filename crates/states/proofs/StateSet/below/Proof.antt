@@ -1,11 +1,10 @@
 -- `StateSet::below` meets its contract. Assumes nothing.
-use mathlib.Core.Path.{sym, ap, _∙_}
-use native.Mathlib.Nat.{mod-eq-of-lt}
+use mathlib.Core.Path.{ap}
 use native.Mathlib.Omega.{arith}
 use lib.Pow.{pow-pos}
 use Rattle.base.proofs.Masks.{shl-one}
 use Rattle.states.specs.StateSets.{setOf}
-use Rattle.states.proofs.Visits.{low-bits, low-all}
+use Rattle.base.proofs.Visits.{low-bits, low-all}
 use borrow.Author.Needs.{needs}
 use Rattle.states.proofs.StateSet.below.Statement.{statement}
 use Rattle.states.proofs.StateSet.below.Tie as tie

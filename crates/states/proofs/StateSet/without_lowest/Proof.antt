@@ -1,7 +1,7 @@
 -- `StateSet::without_lowest` meets its contract. Assumes nothing.
 use mathlib.Core.Path.{ap}
 use Rattle.states.specs.StateSets.{setOf}
-use Rattle.states.proofs.Visits.{lowest-none, lowest-off}
+use Rattle.base.proofs.Visits.{lowest-none, lowest-off}
 use borrow.Author.Needs.{needs}
 use Rattle.states.proofs.StateSet.without_lowest.Statement.{statement}
 use Rattle.states.proofs.StateSet.without_lowest.Tie as tie

@@ -1,4 +1,4 @@
--- Loops over the states of a set below n that take the lowest each time, as the code has them. Assumes nothing.
+-- Loops over the states of a set below n that take the lowest off each time, as the code has them. Assumes nothing.
 use mathlib.Core.Path.{_≡_, refl, sym, ap, _∙_}
 use mathlib.Core.Bool.{Bool, true, false, not, false≢true}
 use mathlib.Core.Logic.{⊎-elim}
@@ -8,18 +8,18 @@ use native.Mathlib.Nat.{lt-of-lt-of-le, mod-eq-of-lt}
 use native.Mathlib.Omega.{arith}
 use native.Mathlib.Decide.{decLt}
 use borrow.Author.Tests.{not-true, not-false, eqb-true}
-use lib.Bits.{bitAnd, and-step, and-self, and-mask, and-le-l, and-le-r}
-use lib.Dec.{eqb}
-use lib.Pow.{field, mod-mod-pow, pow-pos, pow-mono}
+use lib.Bits.{bitAnd, and-step, and-self, and-mask, and-le-r}
+use lib.Dec.{eqb, eqb→eq}
+use lib.Pow.{field, mod-mod-pow, pow-mono}
 use Rattle.base.specs.Sets.{In}
 use Rattle.base.specs.Tests.{pick}
 use Rattle.base.specs.Cardinality.{member, present}
 use Rattle.base.specs.Masks.{lowestIn, without}
-use Rattle.base.proofs.Tests.{T-true, true-T}
-use Rattle.base.proofs.Masks.{half-member, member-in, in-member, in-zero, in-or-not, below-clear, shl-one}
+use Rattle.base.proofs.Tests.{T-true, true-T, eq-T, test-same}
+use Rattle.base.proofs.Masks.{half-member, member-in, in-member, in-zero, in-or-not, in-le, one-in, below-clear, shl-one}
 use Rattle.base.proofs.Present.{present-same}
 use Rattle.base.proofs.Trailing.{lowest-there, none-lower, lowest-is}
 use Rattle.base.proofs.Visiting.{gathered, Visiting, visit-next, visit-end}
 
 none-in : (w s : ℕ) → w ≡ 0 → In w s → ⊥
 none-in w s z h = in-zero s (rw z at h)
@@ -56,6 +56,22 @@ unfolding without pick
 lowest-off w f l =
     let s = lowest-is w f l .there in
     lowest-bit (lowestIn w) w s (none-lower w) ∙ rw (T-true (member w (lowestIn w)) (in-member w (lowestIn w) s))
+
+-- w has the state s: it has no other where none is left without the lowest
+pub alone-lowest : (w s : ℕ) → w < 2 ^ 64 → member w s ≡ true → eqb (without w (lowestIn w)) 0 ≡ eqb w (2 ^ s)
+alone-lowest w s word t =
+    let h : In w s = member-in w s (true-T (member w s) t) in
+    let some : w ≡ 0 → ⊥ = λ z. none-in w s z h in
+    let low = lowest-is w some word .there in
+    let e : without w (lowestIn w) ≡ w - 2 ^ lowestIn w = sym (lowest-off w some word) ∙ lowest-bit (lowestIn w) w low (none-lower w) in
+    let one : (p : ℕ) → w ≡ 2 ^ p → In w p → (q : ℕ) → In w q → q ≡ p = λ p f g q k. one-in p q (rw f at k) in
+    test-same (eqb (without w (lowestIn w)) 0) (eqb w (2 ^ s))
+    (λ z.
+    let f : w ≡ 2 ^ lowestIn w = omega (arith, e, eqb→eq (without w (lowestIn w)) 0 z, in-le w (lowestIn w) low) in
+    eq-T {x = w} {y = 2 ^ s} (f ∙ ap (λ (p : ℕ). 2 ^ p) (sym (one (lowestIn w) f low s h))))
+    (λ z.
+    let f : w ≡ 2 ^ s = eqb→eq w (2 ^ s) z in
+    eq-T {x = without w (lowestIn w)} {y = 0} (e ∙ omega (arith, f, ap (λ (p : ℕ). 2 ^ p) (one s f h (lowestIn w) low))))
 
 -- ---- w & ((1 << n) - 1): its states below n
 pub low-bits : (n w : ℕ) → n < 64 → bitAnd w (1 * 2 ^ n % 2 ^ 64 - 1) ≡ w % 2 ^ n

@@ -1,7 +1,7 @@
 -- Masks set to 0 one after the other. Assumes nothing.
 use mathlib.Core.Path.{_≡_, refl, ap}
 use mathlib.Core.List.{List, [], _∷_}
-use Prim.Native.Nat.{ℕ, zero, suc, _≤_}
+use Prim.Native.Nat.{ℕ, zero, suc, min}
 use native.Mathlib.Omega.{arith}
 use lib.ListN.{length, set, drop}
 use Rattle.book.specs.Buffers.{zeroed}
@@ -13,15 +13,16 @@ zeroed-more (x ∷ l) zero = refl
 zeroed-more [] (suc i) = refl
 zeroed-more (x ∷ l) (suc i) = ap (λ (t : List ℕ). 0 ∷ t) (zeroed-more l i)
 
-pub zeroed-past : (l : List ℕ) (i n : ℕ) → length l ≤ i → length l ≤ n → zeroed i l ≡ zeroed n l
+-- as far as there are any
+pub zeroed-all : (l : List ℕ) (i n : ℕ) → i ≡ min n (length l) → zeroed i l ≡ zeroed n l
 unfolding zeroed
-zeroed-past [] zero zero h k = refl
-zeroed-past [] zero (suc n) h k = refl
-zeroed-past [] (suc i) zero h k = refl
-zeroed-past [] (suc i) (suc n) h k = refl
-zeroed-past (x ∷ l) zero n h k = absurd (omega arith)
-zeroed-past (x ∷ l) (suc i) zero h k = absurd (omega arith)
-zeroed-past (x ∷ l) (suc i) (suc n) h k = ap (λ (t : List ℕ). 0 ∷ t) (zeroed-past l i n (omega arith) (omega arith))
+zeroed-all [] zero zero e = refl
+zeroed-all [] zero (suc n) e = refl
+zeroed-all [] (suc i) n e = absurd (omega arith)
+zeroed-all (x ∷ l) zero zero e = refl
+zeroed-all (x ∷ l) zero (suc n) e = absurd (omega arith)
+zeroed-all (x ∷ l) (suc i) zero e = absurd (omega arith)
+zeroed-all (x ∷ l) (suc i) (suc n) e = ap (λ (t : List ℕ). 0 ∷ t) (zeroed-all l i n (omega arith))
 
 -- what lies past them stays
 pub drop-zeroed : (i : ℕ) (l : List ℕ) → drop i (zeroed i l) ≡ drop i l

@@ -4,21 +4,26 @@
 // A row has in its lowest 16 bits the place of the outcome mask of the state's first move, and from bit 16 on the set of its moves' commands: bit
 // 16 + c is 1 where the state has a move for command c.
 ghost use mathlib.Core.Path.{_≡_};
-ghost use Prim.Native.Nat.{_+_, _<_, _≤_};
+ghost use Prim.Native.Nat.{_+_, _<_, _≤_, min};
 ghost use lib.ListN.{length};
 ghost use Rattle.base.specs.Cardinality.{cardinality};
 ghost use Rattle.book.specs.Buffers.{zeroed};
 ghost use Rattle.moves.specs.Moves.{movedTo, withMove, moveAdded, Indexed};
 
+// The smaller of two numbers.
+fn least(a: usize, b: usize) -> usize
+    ensures { λ r. ⌜ r ≡ min a b ⌝ }
+{
+    if a < b { a } else { b }
+}
+
 // Sets the first n masks to 0, as far as there are any.
 pub fn clear(masks: &mut [u64], n: usize)
     ensures { λ _. ⌜ now (masks .exit) ≡ zeroed n (now (masks .entry)) ⌝ }
 {
+    let end = least(n, masks.len());
     let mut i: usize = 0;
-    while i < n {
-        if masks.len() <= i {
-            return;
-        }
+    while i < end {
         masks[i] = 0;
         i = i + 1;
     }

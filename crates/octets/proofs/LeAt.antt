@@ -14,7 +14,7 @@ use Rattle.base.specs.Tests.{pick}
 use Rattle.octets.specs.Parts.{leAt, wholeAt}
 
 -- one byte more, at any place, also past the end
-le-suc : (n : ℕ) (s : List ℕ) (at : ℕ) → leAt (suc n) s at ≡ getD s at 0 + 256 * leAt n s (suc at)
+pub le-suc : (n : ℕ) (s : List ℕ) (at : ℕ) → leAt (suc n) s at ≡ getD s at 0 + 256 * leAt n s (suc at)
 le-suc n [] zero = rw take-nil
 le-suc n [] (suc at) = rw take-nil
 le-suc n (x ∷ s) zero = refl

@@ -1,7 +1,7 @@
 -- Rows of bytes stored from a place on. Assumes nothing.
 use mathlib.Core.Path.{_≡_, refl, sym, ap, _∙_, subst}
 use mathlib.Core.Bool.{Bool, true, false, not}
-use mathlib.Core.List.{List, [], _∷_, _++_}
+use mathlib.Core.List.{List, [], _∷_, _++_, append-assoc, append-nil}
 use Prim.Native.Nat.{ℕ, zero, suc, _+_, _-_, _/_, _%_, _≤_, _<_}
 use native.Mathlib.Nat.{add-zero, sub-zero}
 use native.Mathlib.Numerals.{add-one}
@@ -9,12 +9,13 @@ use native.Mathlib.Decide.{decLt}
 use native.Mathlib.Omega.{arith}
 use borrow.Author.Tests.{leb-true, leb-false, le-leb, lt-leb}
 use lib.Dec.{T, leb}
-use lib.ListN.{length, getD, set, take, drop, replicate, length-drop, length-append, List·getD-eq-default}
-use lib.Seq.{set-out, sets, drop-cons, take-at}
-use Rattle.base.specs.Lists.{Each}
+use lib.ListN.{length, getD, set, take, drop, replicate, length-drop, length-append, drop-of-length-le, List·getD-eq-default}
+use lib.Seq.{set-out, set-set, set-comm, sets, sets-eq, drop-cons, drop-drop, take-at, length-take-le}
+use Rattle.base.specs.Lists.{Each, Bytes}
 use Rattle.base.proofs.Lists.{each-at}
 use Rattle.octets.specs.Le.{bytesLe}
-use Rattle.octets.specs.Parts.{piece}
+use Rattle.octets.specs.Parts.{le, leAt, piece}
+use Rattle.octets.proofs.Le.{bytesLe-le}
 
 -- past the end nothing is stored
 pub sets-past : (l : List ℕ) (i : ℕ) (xs : List ℕ) → length l ≤ i → sets l i xs ≡ l
@@ -26,6 +27,33 @@ pub sets-append : (l : List ℕ) (i j : ℕ) (xs ys : List ℕ) → i + length x
 sets-append l i j [] ys e = let f : i ≡ j = omega arith in rw (← f)
 sets-append l i j (x ∷ xs) ys e = sets-append (set l i x) (suc i) j xs ys (omega arith)
 
+-- a row stored over one that is no longer
+set-sets : (l : List ℕ) (i j z : ℕ) (ys : List ℕ) → i < j → set (sets l j ys) i z ≡ sets (set l i z) j ys
+set-sets l i j z [] h = refl
+set-sets l i j z (y ∷ ys) h =
+    set-sets (set l j y) i (suc j) z ys (omega arith) ∙ ap (λ (t : List ℕ). sets t (suc j) ys) (set-comm l j i y z (λ e. omega arith))
+
+sets-again : (l : List ℕ) (i : ℕ) (ys zs : List ℕ) → length ys ≤ length zs → sets (sets l i ys) i zs ≡ sets l i zs
+sets-again l i [] zs h = refl
+sets-again l i (y ∷ ys) [] h = absurd (omega arith)
+sets-again l i (y ∷ ys) (z ∷ zs) h =
+    ap (λ (t : List ℕ). sets t (suc i) zs)
+    (set-sets (set l i y) i (suc i) z ys (omega arith) ∙ ap (λ (t : List ℕ). sets t (suc i) ys) (set-set l i y z))
+    ∙ sets-again (set l i z) (suc i) ys zs (omega arith)
+
+sets-over : (l : List ℕ) (i j : ℕ) (xs ys zs : List ℕ) → i + length xs ≡ j → length ys ≤ length zs → sets (sets l i (xs ++ ys)) j zs ≡ sets l i (xs ++ zs)
+sets-over l i j [] ys zs e h = let f : i ≡ j = omega arith in rw (← f) (sets-again l i ys zs h)
+sets-over l i j (x ∷ xs) ys zs e h = sets-over (set l i x) (suc i) j xs ys zs (omega arith) h
+
+-- a part that is lent and stored over as a whole, back in its row
+pub sets-part : (l part : List ℕ) (i k : ℕ) (xs : List ℕ) → i + k ≤ length l → length xs ≡ k → part ≡ sets (take k (drop i l)) 0 xs
+    → take i l ++ (part ++ drop k (drop i l)) ≡ sets l i xs
+sets-part l part i k xs h n e =
+    let size : length (take k (drop i l)) ≡ k = length-take-le k (drop i l) (omega (arith, length-drop i l)) in
+    let none : drop (0 + length xs) (take k (drop i l)) ≡ [] = drop-of-length-le (take k (drop i l)) {i = 0 + length xs} (omega arith) in
+    let same : part ≡ xs = e ∙ sets-eq xs (take k (drop i l)) 0 (omega arith) ∙ rw none (append-nil xs) in
+    rw (same, drop-drop k i l, ← n) (sym (append-assoc (take i l) xs _) ∙ sym (sets-eq xs l i (omega arith)))
+
 -- e is l with xs stored from `at` on, and then with ys after them
 pub record Wrote (l : List ℕ) (at : ℕ) (xs e : List ℕ) : Type 0 where
   pub is : e ≡ sets l at xs
@@ -36,6 +64,11 @@ first l at xs q = record { is = q }
 pub then : {l : List ℕ} {at : ℕ} {xs d e : List ℕ} → Wrote l at xs d → (p : ℕ) (ys : List ℕ) → at + length xs ≡ p → e ≡ sets d p ys
     → Wrote l at (xs ++ ys) e
 then {l} {at} {xs} w p ys h q = record { is = q ∙ (ap (λ (x : List ℕ). sets x p ys) (w .is) ∙ sets-append l at p xs ys h) }
+
+-- and with zs after xs, over what was too long there
+pub over : {l : List ℕ} {at : ℕ} {d e : List ℕ} (xs ys : List ℕ) → Wrote l at (xs ++ ys) d → (p : ℕ) (zs : List ℕ) → at + length xs ≡ p
+    → length ys ≤ length zs → e ≡ sets d p zs → Wrote l at (xs ++ zs) e
+over {l} {at} xs ys w p zs h k q = record { is = q ∙ (ap (λ (x : List ℕ). sets x p zs) (w .is) ∙ sets-over l at p xs ys zs h k) }
 
 -- ---- the loop of `put_le`, in the form that `search` applies backwards: what is left to store gives the whole
 module _ (whole : List ℕ) (left x to : ℕ) where
@@ -157,3 +190,9 @@ each-piece P z (suc n) s p h = (go (decLt p (length s)), each-piece P z n s (suc
     go : Dec (p < length s) → P (getD s p 0)
     go (yes l) = each-at P s h p 0 l
     go (no l) = subst P (sym (List·getD-eq-default s 0 (omega arith))) z
+
+-- the bytes of the number that some bytes are
+pub bytes-piece : (n : ℕ) (s : List ℕ) → Bytes s → (p : ℕ) → p + n ≤ length s → bytesLe n (leAt n s p) ≡ piece n s p
+bytes-piece n s b p l =
+    ap (λ (v : List ℕ). bytesLe n (le v)) (sym (piece-take n s p l))
+    ∙ bytesLe-le n (piece n s p) (length-piece n s p) (each-piece (λ v. v < 256) (omega arith) n s p b)

@@ -27,9 +27,9 @@ use Rattle.book.proofs.Reading.{scan-whole, parse-fine}
 use Rattle.book.proofs.Slots.{length-slot}
 use Rattle.items.specs.Items.{MovesBegin, Begins, ItemStands}
 use Rattle.items.proofs.Laws.{allowed}
-use Rattle.items.proofs.Walk.{past-move, state-at, command-at, mask-at, no-move, none-left, one-more, all-passed}
+use Rattle.items.proofs.Walk.{past-move, state-at, command-at, mask-at, move-inside, no-move, none-left, one-more, all-passed}
 use Rattle.reader.specs.Reads.{done}
-use Rattle.reader.specs.Filling.{moveStored}
+use Rattle.reader.specs.Filling.{moveStored, TableFilled}
 
 -- ---- the device
 module _ (s : List ℕ) (b : Book) (e : bytesOf b ≡ s) where
@@ -51,7 +51,7 @@ pub record Entering (s : List ℕ) (b : Book) (whole : List ℕ) (at : ℕ) (tab
 pub entering : {s : List ℕ} {b : Book} {at : ℕ} (t : List ℕ) → AllowedBook b → MovesBegin s b at → Entering s b (filled (b .m) (b .moves) t) at t
 entering {b = b} t a e = record { left = b .moves; allowed = a .each-move; rest = e; gives = refl }
 
-pub table-is : (b : Book) (n m : ℕ) (t t′ : List ℕ) → n ≡ b .n → m ≡ b .m → t′ ≡ zeroed (n * m) t → filled (b .m) (b .moves) t′ ≡ tableOf b t
+table-is : (b : Book) (n m : ℕ) (t t′ : List ℕ) → n ≡ b .n → m ≡ b .m → t′ ≡ zeroed (n * m) t → filled (b .m) (b .moves) t′ ≡ tableOf b t
 table-is b n m t t′ p q z = ap (filled (b .m) (b .moves)) (z ∙ ap₂ (λ (x y : ℕ). zeroed (x * y) t) p q)
 
 module _ {s : List ℕ} {b : Book} {whole : List ℕ} {at : ℕ} {table : List ℕ} (a : AllowedBook b) (g : Entering s b whole at table) where
@@ -72,13 +72,29 @@ module _ {s : List ℕ} {b : Book} {whole : List ℕ} {at : ℕ} {table : List �
                 rw (e, h, state-at s at x t r, command-at s at x t r, mask-at s at x t r (mask-fits (b .n) (x .mask) (a .device .n-high) (al .0 .states))) w;
           }
 
-  module _ (k : leAt 2 s (at + 2) ≡ 2 → ⊥) where
-    pub all-entered : table ≡ whole
-    unfolding filled
-    all-entered = rw (none-left (g .left) (b .items) s at (g .rest) k) at (g .gives)
+-- no move is left
+abbrev pub AllEntered : List ℕ → Book → List ℕ → ℕ → List ℕ → Type 0
+AllEntered s b whole at table = (g : Entering s b whole at table) × (g .left ≡ [])
 
-    pub at-items : Begins s b 0 at
-    at-items = rw (none-left (g .left) (b .items) s at (g .rest) k) at (g .rest)
+module _ {s : List ℕ} {b : Book} {whole : List ℕ} {at : ℕ} {table : List ℕ} (g : Entering s b whole at table) where
+  pub other-stands : (leAt 2 s (at + 2) ≡ 2 → ⊥) → AllEntered s b whole at table
+  other-stands k = (g, none-left (g .left) (b .items) s at (g .rest) k)
+
+  pub too-few : length s < at + 14 → AllEntered s b whole at table
+  too-few h = (g, go (g .left) (g .rest))
+    where
+      go : (left : List Move) → drop at s ≡ framed (map moveRec left ++ map itemRec (b .items)) → left ≡ []
+      go [] r = refl
+      go (x ∷ xs) r = absurd (omega (arith, move-inside s at x (framed (map moveRec xs ++ map itemRec (b .items))) r))
+
+pub table-filled : (s old table₀ table : List ℕ) (n m at : ℕ) → n ≡ getD s 4 0 → m ≡ getD s 5 0 → table₀ ≡ zeroed (n * m) old
+    → ((b : Book) → AllowedBook b → bytesOf b ≡ s → AllEntered s b (filled (b .m) (b .moves) table₀) at table) → TableFilled s old table at
+unfolding filled
+table-filled s old table₀ table n m at p q z f =
+    record {
+      entries = λ b a e. let (g, none) = f b a e in (rw none at (g .gives)) ∙ table-is b n m old table₀ (p ∙ n-at s b e) (q ∙ m-at s b e) z;
+      begins = λ b a e. let (g, none) = f b a e in rw none at (g .rest);
+    }
 
 -- ---- the pass over the items
 pub record Slotting (s : List ℕ) (b : Book) (whole : List ℕ) (at i : ℕ) (slots : List ℕ) : Type 0 where

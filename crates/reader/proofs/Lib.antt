@@ -1,5 +1,6 @@
 pub mod Laws
 pub mod Turns
+pub mod GoodMoves
 pub mod Weights
 pub mod Stores
 pub mod Filling

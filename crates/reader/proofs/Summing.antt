@@ -28,6 +28,7 @@ use Rattle.octets.specs.Parts.{leAt}
 use Rattle.octets.proofs.Le.{le-bytesLe}
 use Rattle.book.specs.Book.{Move, Book, AllowedBook, Rec, frame, framed, deviceRec, weightsRecs, moveRec, itemRec, recordsOf, bytesOf}
 use Rattle.book.specs.Refusal.{Small}
+use Rattle.book.specs.declared.State.{State}
 use Rattle.book.specs.declared.Scan.{Scan}
 use Rattle.book.specs.declared.Scan.the-variants.{Read, Fault}
 use Rattle.book.specs.Parse.{cut, scan, atStart, parse}
@@ -37,13 +38,15 @@ use Rattle.book.proofs.Weights.{weights-elim}
 use Rattle.book.proofs.Cut.{AllSmall, cut-frame}
 use Rattle.book.proofs.Scanning.{length-frame, small-records}
 use Rattle.book.proofs.Reading.{parse-bytes}
-use Rattle.items.specs.declared.Place.{Place}
-use Rattle.items.specs.Items.{ItemStands, ItemAt}
-use Rattle.items.proofs.Laws.{allowed}
+use Rattle.items.specs.declared.Parts.{Parts}
+use Rattle.items.specs.Items.{ItemStands, heldIn, PartsAt}
+use Rattle.items.proofs.Laws.{allowed, item-is}
 use Rattle.items.proofs.Walk.{kind-at, no-kind}
 use Rattle.reader.specs.declared.units.Tally.{Tally}
 use Rattle.reader.specs.Judged.{ScanBounded}
 use Rattle.reader.specs.Turns.{NoneLeft}
+use Rattle.reader.specs.Passing.{Passing}
+use Rattle.reader.specs.Passing.Passing.{none, one}
 use Rattle.reader.specs.Summing.{Within, withItem, Tallied, SummedUp}
 use Rattle.reader.proofs.Filling.{refused}
 
@@ -78,28 +81,29 @@ module _ (s : List ℕ) (at : ℕ) (t : Tally) (h : Within t) where
   pub no-further : 64 ≤ t .count → Tallied s at t t
   no-further l = record { within = h; other = λ _. refl; item-is = λ k q. absurd (omega (arith, q .known, q .allowed .few)) }
 
-  module _ (p : Place) (c : ItemAt s at p) (fits : p .psi < 2 ^ 64) where
-    units-is : {b : Book} → (q : ItemStands s b (t .count) at) → ones (p .psi) * (p .k + p .r) ≡ itemUnits (b .n) (item (b .items) (t .count))
+  module _ (p : Parts) (c : PartsAt s at p) (psi : ℕ) (is : psi ≡ heldIn s p .psi) (fits : psi < 2 ^ 64) where
+    units-is : {b : Book} → (q : ItemStands s b (t .count) at) → ones psi * (p .k + p .r) ≡ itemUnits (b .n) (item (b .items) (t .count))
     unfolding clearFrom
     units-is {b} q =
         let x = item (b .items) (t .count) in
-        let f = c .fields q in
+        let f = c .parts q in
+        let e : psi ≡ x .psi = is ∙ ap (λ (y : Item). y .psi) (c .held ∙ item-is q) in
         let l = ltb→lt (x .psi) (2 ^ b .n) (clear↔ (b .n) (x .psi) .1 (allowed q .psi-states)) in
-        rw (f .k-is, f .r-is, f .psi-is, ← cardinality-ones (b .n) (x .psi) l)
+        rw (f .k-is, f .r-is, e, ← cardinality-ones (b .n) (x .psi) l)
 
     pub adds-item : leAt 2 s (at + 2) ≡ 3 → t .count < 64 → (l : ℕ) → l ≡ larger (t .longest) (p .r)
-        → Tallied s at t (record { count = t .count + 1; units = t .units + ones (p .psi) * (p .k + p .r); longest = l })
+        → Tallied s at t (record { count = t .count + 1; units = t .units + ones psi * (p .k + p .r); longest = l })
     adds-item k few l e =
         record {
           within =
               record {
                 few = omega arith;
-                units-high = omega (arith, h .units-high, product-most (p .psi) (p .k) (p .r) fits (c .k-byte) (c .r-byte));
+                units-high = omega (arith, h .units-high, product-most psi (p .k) (p .r) fits (c .k-byte) (c .r-byte));
                 longest-high = rw e (⊎-elim (λ (z : larger (t .longest) (p .r) ≡ t .longest). rw z (h .longest-high))
                     (λ (z : larger (t .longest) (p .r) ≡ p .r). rw z (c .r-byte)) (larger-is (t .longest) (p .r)));
               };
           other = λ f. absurd (f k);
-          item-is = λ _ {b} q. rw (units-is q, e, c .fields q .r-is);
+          item-is = λ _ {b} q. rw (units-is q, e, c .parts q .r-is);
         }
 
 -- ---- the pass
@@ -258,6 +262,13 @@ passed {s} {b} {at} {t} a e g l t′ c = go (eqb (leAt 2 s (at + 2)) 3) refl
     go false q =
         let f = eqb-false (leAt 2 s (at + 2)) 3 q in
         subst (λ (z : Tally). Summing s b (at + 4 + leAt 2 s at) z) (sym (c .other f)) (other-passed g f l)
+
+-- past moves, which add nothing
+pub moves-passed : {s : List ℕ} {b : Book} {from at : ℕ} {st after : State} {t : Tally} → Passing s from st at after → Summing s b from t → Summing s b at t
+moves-passed none g = g
+moves-passed {s} {b} {t = t} (one {at} p l m h) g =
+    let e : at + 4 + leAt 2 s at ≡ at + 14 = omega (arith, m .length-is) in
+    subst (λ (k : ℕ). Summing s b k t) e (other-passed (moves-passed p g) (λ z. omega (arith, m .kind-is)) (omega arith))
 
 -- at the end of the pass; no allowed book has these bytes where a fault is found
 pub summed : (s : List ℕ) (at : ℕ) (t : Tally) (seen : Scan) → Within t → ((b : Book) → AllowedBook b → bytesOf b ≡ s → Summing s b at t)

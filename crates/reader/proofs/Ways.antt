@@ -1,5 +1,5 @@
 -- The ways through the tests of reading, for the result and the buffers alike, and for the contract. Assumes nothing.
-use mathlib.Core.Path.{_≡_, refl, sym, ap, _∙_}
+use mathlib.Core.Path.{_≡_, refl, sym, ap, _∙_, subst}
 use mathlib.Core.Bool.{Bool, true, false}
 use mathlib.Core.List.{List}
 use Prim.Native.Nat.{ℕ, _≤_, _<_}
@@ -68,6 +68,14 @@ module _ (s : List ℕ) (l : Lent) (bytes : Each (λ x. x < 256) s) where
   as-short h r x = record { bytes = bytes; result = x ∙ sym (when-short s l _ _ h); buffers = sym (when-short s l _ _ h) }
 
 -- in buffers that are long enough reading answers so, and leaves what `lentBy` says
+-- the answer for a book, written out
+pub answered : {s : List ℕ} {r : Reading} (b : Book) → r ≡ done b → ReadingOf s r
+    → ReadingOf s (record { code = 0; place = 0; n = r .n; m = r .m; items = r .items })
+answered {r = r} b e c =
+    let same : record { code = 0; place = 0; n = r .n; m = r .m; items = r .items } ≡ r =
+    subst (λ (x : Reading). record { code = 0; place = 0; n = x .n; m = x .m; items = x .items } ≡ x) (sym e) refl in
+    record { bytes = c .bytes; result = same ∙ c .result }
+
 pub read-as : {s : List ℕ} {r : Reading} (l : Lent) → ReadingOf s r → LongEnough (sizes l) → (l′ : Lent) → l′ ≡ lentBy s l → ReadAs s l r l′
 unfolding readBy pick
 read-as l c h l′ e = record { bytes = c .bytes; result = rw (long-off (sizes l) h) (c .result); buffers = e }

@@ -1,5 +1,6 @@
 pub mod Judged
 pub mod Turns
+pub mod Passing
 pub mod Summing
 pub mod Filling
 pub mod Reads

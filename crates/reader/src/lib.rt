@@ -1,5 +1,6 @@
 // Reading a book into a lent table, lent slots and lent weights.
 mod fill;
+mod passing;
 mod scan;
 mod steps;
 mod units;
@@ -9,6 +10,7 @@ use book::State;
 use scan::Turn;
 use units::Tally;
 ghost use mathlib.Core.Path.{_≡_};
+ghost use mathlib.Core.Bool.{true};
 ghost use Rattle.book.specs.Parse.{cut, atStart};
 ghost use Rattle.book.specs.Parse as parse;
 ghost use Rattle.book.specs.Lent.{lent};
@@ -36,9 +38,11 @@ pub struct Sums {
     pub longest: u64,
 }
 
-// Judges the bytes of a book and sums up its items in the same pass.
-pub fn sum_up(book: &[u8]) -> Sums
-    ensures { λ r. ⌜ SummedUp (now (book .entry)) r ⌝ }
+// The pass over a book's records: judges its bytes and, where this is asked for, sums up its items.
+fn pass(book: &[u8], summing: bool) -> Sums
+    ensures { λ r. ⌜ r .seen ≡ parse.scan (cut (now (book .entry))) 0 atStart ⌝ }
+    ensures { λ r. ⌜ ScanBounded (r .seen) ⌝ }
+    ensures { λ r. ⌜ (summing ≡ true → SummedUp (now (book .entry)) r) ⌝ }
 {
     let mut at: usize = 0;
     let mut st = State {
@@ -54,6 +58,9 @@ pub fn sum_up(book: &[u8]) -> Sums
         longest: 0,
     };
     loop {
+        let reached = passing::past_moves(book, at, st);
+        st = reached.st;
+        at = reached.at;
         let next = scan::turn_at(book, at, st);
         match next {
             Turn::Ended(seen) => {
@@ -64,7 +71,7 @@ pub fn sum_up(book: &[u8]) -> Sums
                 };
             }
             Turn::Going(after, place) => {
-                tally = units::with_record(book, at, tally);
+                tally = units::with_record(book, at, tally, summing);
                 st = after;
                 at = place;
             }
@@ -72,12 +79,19 @@ pub fn sum_up(book: &[u8]) -> Sums
     }
 }
 
+// Judges the bytes of a book and sums up its items in the same pass.
+pub fn sum_up(book: &[u8]) -> Sums
+    ensures { λ r. ⌜ SummedUp (now (book .entry)) r ⌝ }
+{
+    pass(book, true)
+}
+
 // Judges the bytes of a book with no buffer lent: the first fault, or where reading is at its end.
 pub fn judge(book: &[u8]) -> Scan
     ensures { λ r. ⌜ r ≡ parse.scan (cut (now (book .entry))) 0 atStart ⌝ }
     ensures { λ r. ⌜ ScanBounded r ⌝ }
 {
-    let sums = sum_up(book);
+    let sums = pass(book, false);
     sums.seen
 }
 
@@ -89,7 +103,13 @@ pub fn fill_table(book: &[u8], table: &mut [u64]) -> usize
     let m = octets::byte_at(book, 5);
     moves::clear(table, (n * m) as usize);
     let mut at = items::first_move(book);
-    while octets::u16_at(book, at + 2) == 2 {
+    if book.len() < at {
+        return at;
+    }
+    while 14 <= book.len() - at {
+        if octets::u16_at(book, at + 2) != 2 {
+            return at;
+        }
         fill::put_move(book, at, m, table);
         at = at + 14;
     }
@@ -179,5 +199,11 @@ pub fn read(book: &[u8], table: &mut [u64], slots: &mut [u8], weights: &mut [u16
     let first = fill_table(book, table);
     fill_slots(book, first, slots);
     fill_weights(book, weights);
-    found
+    Reading {
+        code: 0,
+        place: 0,
+        n: found.n,
+        m: found.m,
+        items: found.items,
+    }
 }

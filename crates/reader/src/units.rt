@@ -1,5 +1,6 @@
 // The units of the items passed so far, and the longest reverse among them.
 ghost use mathlib.Core.Path.{_≡_};
+ghost use mathlib.Core.Bool.{true};
 ghost use Prim.Native.Nat.{_≤_};
 ghost use lib.ListN.{length};
 ghost use Rattle.reversal.specs.Computed.Units.{larger};
@@ -22,11 +23,14 @@ fn larger_of(a: u64, b: u64) -> u64
     a
 }
 
-// The record at a place: an item's adds (states in psi) × (k + r), any other adds nothing.
-pub(crate) fn with_record(book: &[u8], at: usize, so_far: Tally) -> Tally
+// The record at a place, where items are summed up: an item's adds (states in psi) × (k + r), any other adds nothing.
+pub(crate) fn with_record(book: &[u8], at: usize, so_far: Tally, summing: bool) -> Tally
     requires { ⌜ Within «so_far» × (at ≤ length (now book)) ⌝ }
-    ensures { λ r. ⌜ Tallied (now (book .entry)) at «so_far» r ⌝ }
+    ensures { λ r. ⌜ Within r × (summing ≡ true → Tallied (now (book .entry)) at «so_far» r) ⌝ }
 {
+    if !summing {
+        return so_far;
+    }
     if octets::u16_at(book, at + 2) != 3 {
         return so_far;
     }
@@ -34,8 +38,8 @@ pub(crate) fn with_record(book: &[u8], at: usize, so_far: Tally) -> Tally
     if 64 <= so_far.count {
         return so_far;
     }
-    let item = items::item_at(book, at);
-    let starts = u64::count_ones(item.psi) as u64;
+    let item = items::parts_at(book, at);
+    let starts = u64::count_ones(items::psi(book, item)) as u64;
     Tally {
         count: so_far.count + 1,
         units: so_far.units + starts * (item.k + item.r) as u64,

@@ -1,20 +1,23 @@
 -- A slot read and stored part by part. Assumes nothing.
 use mathlib.Core.Path.{_≡_, refl, sym, ap, _∙_}
-use mathlib.Core.List.{List, [], _∷_, _++_}
-use Prim.Native.Nat.{ℕ, zero, suc, _+_, _-_, _*_, _/_, _%_, _≤_, _<_}
+use mathlib.Core.List.{List, [], _∷_, _++_, append-assoc}
+use Prim.Native.Nat.{ℕ, _+_, _*_, _/_, _%_, _≤_, _<_}
 use native.Mathlib.Omega.{arith}
-use lib.ListN.{length, getD, replicate}
+use lib.ListN.{length, getD, length-append}
 use lib.Seq.{sets}
 use Rattle.reversal.specs.Reversal.{Item}
+use Rattle.reversal.specs.Chains.{item}
 use Rattle.octets.specs.Le.{bytesLe}
 use Rattle.octets.specs.Parts.{piece}
+use Rattle.octets.proofs.Le.{length-bytesLe}
 use Rattle.octets.proofs.Put.{first, then, length-piece, piece-get}
+use Rattle.book.specs.Book.{Book}
 use Rattle.book.specs.Lent.{padded, slotOf}
 use Rattle.book.specs.Slots.{itemAt}
 use Rattle.book.proofs.Slots.{length-padded}
 use Rattle.items.specs.declared.Parts.{Parts}
-use Rattle.items.specs.Items.{PartsOf, PartsAt}
-use Rattle.items.proofs.Laws.{allowed}
+use Rattle.items.specs.Items.{heldIn, ItemStands, PartsAt}
+use Rattle.items.proofs.Laws.{allowed, item-is}
 use Rattle.slots.specs.Filled.{headFrom, tailFrom, SlotFilled}
 
 -- ---- the fields of the item in slot a
@@ -43,19 +46,6 @@ module _ (s : List ℕ) (a : ℕ) where
     reverse-put p e = p ∙ ap (λ (n : ℕ). sets d at (piece n s (34 * a + 10))) (e ∙ length-piece _ s (34 * a + 10))
 
 -- ---- a slot stored
-bytes-zero : (n : ℕ) → bytesLe n 0 ≡ replicate n 0
-unfolding bytesLe
-bytes-zero zero = refl
-bytes-zero (suc n) = ap (λ (t : List ℕ). 0 ∷ t) (bytes-zero n)
-
-commands-put : (n : ℕ) (s : List ℕ) (p q : ℕ) (d₀ d₁ d₂ : List ℕ) → d₁ ≡ sets d₀ q (piece n s p) → d₂ ≡ sets d₁ (q + n) (bytesLe (8 - n) 0)
-    → d₂ ≡ sets d₀ q (padded (piece n s p))
-commands-put n s p q d₀ d₁ d₂ e f =
-    let row = piece n s p in
-    let l = length-piece n s p in
-    then (first d₀ q row e) (q + n) (bytesLe (8 - n) 0) (omega arith) f .is
-    ∙ ap (λ (z : List ℕ). sets d₀ q (row ++ z)) (bytes-zero (8 - n) ∙ ap (λ (k : ℕ). replicate (8 - k) 0) (sym l))
-
 counts-put : (k r : ℕ) → k ≤ 8 → r ≤ 8 → bytesLe 2 (k + 256 * r) ≡ k ∷ r ∷ []
 unfolding bytesLe
 counts-put k r h l =
@@ -64,20 +54,23 @@ counts-put k r h l =
     let g : r % 256 ≡ r = omega arith in
     rw (e, f, g)
 
-module _ (s : List ℕ) (k r p q : ℕ) (d₀ d₁ d₂ d₃ : List ℕ) where
-  pub head-put : k ≤ 8 → r ≤ 8 → d₁ ≡ sets d₀ q (bytesLe 2 (k + 256 * r)) → d₂ ≡ sets d₁ (q + 2) (piece k s p)
-      → d₃ ≡ sets d₂ (q + 2 + k) (bytesLe (8 - k) 0) → d₃ ≡ sets d₀ q (headFrom s k r p)
+module _ (s : List ℕ) (r p q v : ℕ) (d₀ d₁ d₂ : List ℕ) where
+  pub head-put : (k : ℕ) → k ≤ 8 → r ≤ 8 → bytesLe 8 v ≡ padded (piece k s p) → d₁ ≡ sets d₀ q (bytesLe 2 (k + 256 * r)) → d₂ ≡ sets d₁ (q + 2) (bytesLe 8 v)
+      → d₂ ≡ sets d₀ q (headFrom s k r p)
   unfolding headFrom
-  head-put h g e₁ e₂ e₃ =
-      then (first d₀ q (k ∷ r ∷ []) (e₁ ∙ ap (sets d₀ q) (counts-put k r h g)))
-      (q + 2) (padded (piece k s p)) refl (commands-put k s p (q + 2) d₁ d₂ d₃ e₂ e₃) .is
+  head-put k h g e e₁ e₂ =
+      then (first d₀ q (k ∷ r ∷ []) (e₁ ∙ ap (sets d₀ q) (counts-put k r h g))) (q + 2) (padded (piece k s p)) refl (e₂ ∙ ap (sets d₁ (q + 2)) e) .is
 
-  pub tail-put : (masks : ℕ) → r ≤ 8 → d₁ ≡ sets d₀ q (piece r s p) → d₂ ≡ sets d₁ (q + r) (bytesLe (8 - r) 0)
-      → d₃ ≡ sets d₂ (q + 8) (piece 16 s masks) → d₃ ≡ sets d₀ q (tailFrom s r p masks)
+  pub tail-put : (phi psi : ℕ) (d₃ : List ℕ) → bytesLe 8 v ≡ padded (piece r s p) → d₁ ≡ sets d₀ q (bytesLe 8 v) → d₂ ≡ sets d₁ (q + 8) (bytesLe 8 phi)
+      → d₃ ≡ sets d₂ (q + 16) (bytesLe 8 psi) → d₃ ≡ sets d₀ q (tailFrom s r p phi psi)
   unfolding tailFrom
-  tail-put masks h e₁ e₂ e₃ =
-      let l : length (padded (piece r s p)) ≡ 8 = length-padded (piece r s p) (omega (arith, length-piece r s p)) in
-      then (first d₀ q (padded (piece r s p)) (commands-put r s p q d₀ d₁ d₂ e₁ e₂)) (q + 8) (piece 16 s masks) (omega arith) e₃ .is
+  tail-put phi psi d₃ e e₁ e₂ e₃ =
+      then (then (first d₀ q (bytesLe 8 v) e₁) (q + 8) (bytesLe 8 phi) (omega (arith, length-bytesLe 8 v)) e₂) (q + 16) (bytesLe 8 psi)
+      (omega (arith, length-append (bytesLe 8 v) (bytesLe 8 phi), length-bytesLe 8 v, length-bytesLe 8 phi)) e₃ .is
+      ∙ ap (sets d₀ q) row
+    where
+      row : (bytesLe 8 v ++ bytesLe 8 phi) ++ bytesLe 8 psi ≡ padded (piece r s p) ++ (bytesLe 8 phi ++ bytesLe 8 psi)
+      row = append-assoc (bytesLe 8 v) (bytesLe 8 phi) (bytesLe 8 psi) ∙ ap (λ (t : List ℕ). t ++ (bytesLe 8 phi ++ bytesLe 8 psi)) e
 
 -- ---- the contract of `fill`
 module _ {s : List ℕ} {at : ℕ} {p : Parts} (o : PartsAt s at p) (slots : List ℕ) (a : ℕ) where
@@ -94,17 +87,21 @@ module _ {s : List ℕ} {at : ℕ} {p : Parts} (o : PartsAt s at p) (slots : Lis
       }
 
   -- its slot is that of the item whose parts stand there
-  module _ (d slots′ : List ℕ) (low : p .k ≤ 8) (e : d ≡ sets slots (34 * a) (headFrom s (p .k) (p .r) (p .forward)))
-      (f : slots′ ≡ sets d (34 * a + 10) (tailFrom s (p .r) (p .reverse) (p .masks))) where
-    stored : slots′ ≡ sets slots (34 * a) (headFrom s (p .k) (p .r) (p .forward) ++ tailFrom s (p .r) (p .reverse) (p .masks))
+  module _ (phi psi : ℕ) (is : phi ≡ heldIn s p .phi) (is′ : psi ≡ heldIn s p .psi) (d slots′ : List ℕ) (low : p .k ≤ 8)
+      (e : d ≡ sets slots (34 * a) (headFrom s (p .k) (p .r) (p .forward)))
+      (f : slots′ ≡ sets d (34 * a + 10) (tailFrom s (p .r) (p .reverse) phi psi)) where
+    stored : slots′ ≡ sets slots (34 * a) (headFrom s (p .k) (p .r) (p .forward) ++ tailFrom s (p .r) (p .reverse) phi psi)
     unfolding headFrom
     stored =
         let l = length-padded (piece (p .k) s (p .forward)) (omega (arith, length-piece (p .k) s (p .forward))) in
         then (first slots (34 * a) (headFrom s (p .k) (p .r) (p .forward)) e) (34 * a + 10) _ (omega arith) f .is
 
-    slot-from : (x : Item) → PartsOf s p x → headFrom s (p .k) (p .r) (p .forward) ++ tailFrom s (p .r) (p .reverse) (p .masks) ≡ slotOf x
+    slot-from : {b : Book} {i : ℕ} → ItemStands s b i at → headFrom s (p .k) (p .r) (p .forward) ++ tailFrom s (p .r) (p .reverse) phi psi ≡ slotOf (item (b .items) i)
     unfolding headFrom tailFrom
-    slot-from x f = rw (f .forward-is, f .reverse-is, f .masks-are, f .k-is, f .r-is)
+    slot-from h =
+        let f = o .parts h in
+        let held = o .held ∙ item-is h in
+        rw (f .forward-is, f .reverse-is, f .k-is, f .r-is, is, is′, ap (λ (x : Item). x .phi) held, ap (λ (x : Item). x .psi) held)
 
     pub item-filled : SlotFilled s at slots a slots′ (p .next)
-    item-filled = record { past = o .past; slot = λ h. stored ∙ ap (sets slots (34 * a)) (slot-from _ (o .parts h)); next = o .next }
+    item-filled = record { past = o .past; slot = λ h. stored ∙ ap (sets slots (34 * a)) (slot-from h); next = o .next }

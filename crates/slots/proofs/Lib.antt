@@ -1,2 +1,3 @@
+pub mod Commands
 pub mod Laws
 pub mod Tests

@@ -6,16 +6,17 @@ use lib.ListN.{length}
 use lib.Seq.{sets}
 use Rattle.reversal.specs.Chains.{item}
 use Rattle.book.specs.Book.{Book}
+use Rattle.octets.specs.Le.{bytesLe}
 use Rattle.octets.specs.Parts.{piece}
 use Rattle.book.specs.Lent.{padded, slotOf}
 use Rattle.items.specs.Items.{Begins, ItemStands}
 
--- the slot of an item whose parts stand in s: counts k and r and the forward commands at p, then the reverse commands at p and the masks
+-- the slot of an item whose commands stand in s: counts k and r and the forward commands at p, then the reverse commands at p and the masks
 unfoldable pub headFrom : List ℕ → ℕ → ℕ → ℕ → List ℕ
 headFrom s k r p = k ∷ r ∷ padded (piece k s p)
 
-unfoldable pub tailFrom : List ℕ → ℕ → ℕ → ℕ → List ℕ
-tailFrom s r p masks = padded (piece r s p) ++ piece 16 s masks
+unfoldable pub tailFrom : List ℕ → ℕ → ℕ → ℕ → ℕ → List ℕ
+tailFrom s r p phi psi = padded (piece r s p) ++ (bytesLe 8 phi ++ bytesLe 8 psi)
 
 -- the contract of `fill`: bytes s with a record at `at`, the slots before and after, and the place of the next record
 pub record SlotFilled (s : List ℕ) (at : ℕ) (slots : List ℕ) (a : ℕ) (slots′ : List ℕ) (r : ℕ) : Type 0 where

@@ -4,6 +4,9 @@ ghost use mathlib.Core.Path.{_≡_};
 ghost use Prim.Native.Nat.{_≤_, _<_};
 ghost use lib.ListN.{length, getD};
 ghost use lib.Seq.{sets};
+ghost use Rattle.octets.specs.Le.{bytesLe};
+ghost use Rattle.octets.specs.Parts.{piece};
+ghost use Rattle.book.specs.Lent.{padded};
 ghost use Rattle.book.specs.Slots.{itemAt, slotFine};
 ghost use Rattle.slots.specs.Filled.{headFrom, tailFrom, SlotFilled};
 
@@ -85,24 +88,36 @@ pub fn fine(slots: &[u8], a: u8, n: u64, m: u64) -> bool
     limits::all_below(&slots[b..q + 18], 1)
 }
 
-// Stores the counts of an item, from q on, and its forward commands, which stand at p of the book, with zeros behind them.
+// The number whose eight bytes are the commands that stand at p of a book, with zeros behind them.
+fn commands_at(book: &[u8], p: usize, count: usize) -> u64
+    requires { ⌜ count ≤ 8 ⌝ }
+    ensures { λ r. ⌜ bytesLe 8 r ≡ padded (piece count (now (book .entry)) p) ⌝ }
+{
+    let eight = octets::u64_at(book, p);
+    if count < 8 {
+        eight % (1 << (8 * count))
+    } else {
+        eight
+    }
+}
+
+// Stores the counts of an item, from q on, and its forward commands, which stand at p of the book.
 fn put_head(book: &[u8], k: usize, r: usize, p: usize, slots: &mut [u8], q: usize)
     requires { ⌜ (k ≤ 8) × (r ≤ 8) × (q < 9000) ⌝ }
     ensures { λ _. ⌜ now (slots .exit) ≡ sets (now (slots .entry)) q (headFrom (now (book .entry)) k r p) ⌝ }
 {
     octets::put_le(2, (k + 256 * r) as u64, slots, q);
-    octets::copy(k, book, p, slots, q + 2);
-    octets::put_le(8 - k, 0, slots, q + 2 + k);
+    octets::put_le(8, commands_at(book, p, k), slots, q + 2);
 }
 
 // Stores its reverse commands, which stand at p, and its masks.
-fn put_tail(book: &[u8], r: usize, p: usize, masks: usize, slots: &mut [u8], q: usize)
+fn put_tail(book: &[u8], r: usize, p: usize, phi: u64, psi: u64, slots: &mut [u8], q: usize)
     requires { ⌜ (r ≤ 8) × (q < 10000) ⌝ }
-    ensures { λ _. ⌜ now (slots .exit) ≡ sets (now (slots .entry)) q (tailFrom (now (book .entry)) r p masks) ⌝ }
+    ensures { λ _. ⌜ now (slots .exit) ≡ sets (now (slots .entry)) q (tailFrom (now (book .entry)) r p phi psi) ⌝ }
 {
-    octets::copy(r, book, p, slots, q);
-    octets::put_le(8 - r, 0, slots, q + r);
-    octets::copy(16, book, masks, slots, q + 8);
+    octets::put_le(8, commands_at(book, p, r), slots, q);
+    octets::put_le(8, phi, slots, q + 8);
+    octets::put_le(8, psi, slots, q + 16);
 }
 
 // Fills slot a from the item whose record begins at a place of a book; gives the place of the next one. Where no item stands nothing is stored, or
@@ -117,8 +132,10 @@ pub fn fill(book: &[u8], at: usize, slots: &mut [u8], a: u8) -> usize
     if 8 < item.r {
         return item.next;
     }
+    let phi = items::phi(book, item);
+    let psi = items::psi(book, item);
     let q = SLOT_LEN * a as usize;
     put_head(book, item.k, item.r, item.forward, slots, q);
-    put_tail(book, item.r, item.reverse, item.masks, slots, q + 10);
+    put_tail(book, item.r, item.reverse, phi, psi, slots, q + 10);
     item.next
 }

@@ -6,30 +6,25 @@ use native.Mathlib.Numerals.{add-one}
 use borrow.Author.Needs.{needs}
 use lib.ListN.{length}
 use Rattle.book.specs.Buffers.{zeroed}
-use Rattle.moves.proofs.Clearing.{zeroed-more, zeroed-past}
+use Rattle.moves.proofs.Clearing.{zeroed-more, zeroed-all}
 use Rattle.moves.proofs.clear.Statement.{statement}
 use Rattle.moves.proofs.clear.Tie as tie
 use Rattle.moves.proofs.clear.Reads as reads
 use Rattle.moves.proofs.clear.Lts as lts
+use Rattle.moves.proofs.least.Reads as least-reads
 
 abbrev Inv-loop : tie.InvT-loop
-Inv-loop masks₀ n i₀ masks i = (masks ≡ zeroed i masks₀) × (length masks ≡ length masks₀) × (i ≤ n)
+Inv-loop masks₀ n end i₀ masks i = (masks ≡ zeroed i masks₀) × (length masks ≡ length masks₀) × (i ≤ end)
 
 abbrev μ-loop : tie.MeasureT-loop
-μ-loop masks₀ n i₀ masks i = n - i
+μ-loop masks₀ n end i₀ masks i = end - i
+
+least-requires : tie.Need-least-requires Inv-loop μ-loop
+least-requires c κs = search needs
 
 loop-holds : tie.Need-loop-holds Inv-loop μ-loop
 unfolding zeroed
 loop-holds c = search needs
-
-same-length : tie.Need-same-length Inv-loop μ-loop
-same-length c = search needs
-
-returns : tie.Need-returns Inv-loop μ-loop
-returns c =
-    let l = c .before .before in
-    let a = l .before .args in
-    l .loop .inv .0 ∙ zeroed-past (a .masks .now) (l .loop .i) (a .n) (omega arith) (omega arith)
 
 mul-masks : tie.Need-mul-masks Inv-loop μ-loop
 mul-masks c = search needs
@@ -45,16 +40,17 @@ loop-less c = search needs
 
 loop-again : tie.Need-loop-again Inv-loop μ-loop
 loop-again c =
-    let l = c .before .before .loop in
-    (rw (l .inv .0, add-one) (zeroed-more (c .before .before .before .args .masks .now) (l .i)), search needs, search needs)
+    let l = c .before .loop in
+    (rw (l .inv .0, add-one) (zeroed-more (c .before .before .before .before .args .masks .now) (l .i)), search needs, search needs)
 
-same-length-2 : tie.Need-same-length-2 Inv-loop μ-loop
-same-length-2 c = search needs
+same-length : tie.Need-same-length Inv-loop μ-loop
+same-length c = search needs
 
-returns-2 : tie.Need-returns-2 Inv-loop μ-loop
-returns-2 c =
-    let e : c .before .loop .i ≡ c .before .before .args .n = omega arith in
-    rw (← e) (c .before .loop .inv .0)
+returns : tie.Need-returns Inv-loop μ-loop
+returns c =
+    let l = c .before .loop in
+    let e : l .i ≡ c .before .before .least .result = omega arith in
+    l .inv .0 ∙ zeroed-all (c .before .before .before .before .args .masks .now) (l .i) (c .before .before .before .before .args .n) (e ∙ c .before .before .least .ensures)
 
 pub clear-spec : {M : Type 1} → statement M
 clear-spec =
@@ -62,13 +58,12 @@ clear-spec =
     (tie.spec
     Inv-loop
     μ-loop
+    least-requires
     loop-holds
-    same-length
-    returns
     mul-masks
     slice-write-masks
     add-i
     loop-less
     loop-again
-    same-length-2
-    returns-2)
+    same-length
+    returns)

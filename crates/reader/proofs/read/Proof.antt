@@ -8,7 +8,7 @@ use Rattle.base.proofs.Lists.{each-of}
 use Rattle.base.proofs.Sizes.{short-here, short-past}
 use Rattle.book.specs.Lent.{Lent, lent, sizes}
 use Rattle.book.proofs.Lent.{same-buffers}
-use Rattle.reader.proofs.Ways.{as-short, read-as, left-alone, when-fine}
+use Rattle.reader.proofs.Ways.{answered, as-short, read-as, left-alone, when-fine}
 use Rattle.reader.proofs.Exactly.{book-read}
 use borrow.Author.Needs.{needs}
 use Rattle.reader.proofs.read.Statement.{statement}
@@ -107,7 +107,7 @@ returns-5 c =
     let e = j .reading-of .ensures in
     let f = book-read (read-as l e (long j) _ refl) (t .before .before .if4 .left) in
     let first = t .fill-table .ensures .begins (f .book) (f .allowed) (f .bytes) in
-    read-as l e (long j) _
+    read-as l (answered (f .book) (f .result) e) (long j) _
     (same-buffers (t .fill-table .ensures .entries (f .book) (f .allowed) (f .bytes)) (d .fill-slots .ensures .items (f .book) (f .allowed) (f .bytes) first)
     (w .fill-weights .ensures .each (f .book) (f .allowed) (f .bytes)) ∙ sym (when-fine _ l _ _ (long j) (f .book) (f .parsed)))
 

@@ -1,12 +1,12 @@
--- `put_head` meets its contract: three runs of stores are one. Assumes nothing.
-use borrow.Author.Needs.{needs}
+-- `put_head` meets its contract: two stores are one. Assumes nothing.
 use Rattle.slots.proofs.Laws.{head-put}
+use borrow.Author.Needs.{needs}
 use Rattle.slots.proofs.put_head.Statement.{statement}
 use Rattle.slots.proofs.put_head.Tie as tie
 use Rattle.slots.proofs.put_head.Reads as reads
 use Rattle.slots.proofs.put_head.Lts as lts
-use Rattle.octets.proofs.copy.Reads as copy-reads
 use Rattle.octets.proofs.put_le.Reads as put-le-reads
+use Rattle.slots.proofs.commands_at.Reads as commands-at-reads
 
 mul-put-le : tie.Need-mul-put-le
 mul-put-le c = search needs
@@ -17,20 +17,11 @@ add-put-le c = search needs
 put-le-requires : tie.Need-put-le-requires
 put-le-requires c κs = search needs
 
-add-copy : tie.Need-add-copy
-add-copy c = search needs
-
-copy-requires : tie.Need-copy-requires
-copy-requires c κs = search needs
-
-sub-put-le : tie.Need-sub-put-le
-sub-put-le c = search needs
+commands-at-requires : tie.Need-commands-at-requires
+commands-at-requires c κs = search needs
 
 add-put-le-2 : tie.Need-add-put-le-2
 add-put-le-2 c = search needs
-
-add-put-le-3 : tie.Need-add-put-le-3
-add-put-le-3 c = search needs
 
 put-le-requires-2 : tie.Need-put-le-requires-2
 put-le-requires-2 c κs = search needs
@@ -48,11 +39,8 @@ put-head-spec =
     mul-put-le
     add-put-le
     put-le-requires
-    add-copy
-    copy-requires
-    sub-put-le
+    commands-at-requires
     add-put-le-2
-    add-put-le-3
     put-le-requires-2
     same-length
     returns)

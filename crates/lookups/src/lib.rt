@@ -37,6 +37,34 @@ pub fn row_at(table: &[u64], m: usize, state: usize) -> [u64; ROW_LEN]
     row
 }
 
+// The mask of a command in a state's row, 0 past its end. With an arm for each command the compiler reads that mask alone, and builds no row.
+fn mask_at(row: &[u64], command: u64) -> u64
+    ensures { λ r. ⌜ r ≡ getD (now (row .entry)) command 0 ⌝ }
+{
+    if row.len() != ROW_LEN {
+        return entry_at(row, command as usize);
+    }
+    match command {
+        0 => row[0],
+        1 => row[1],
+        2 => row[2],
+        3 => row[3],
+        4 => row[4],
+        5 => row[5],
+        6 => row[6],
+        7 => row[7],
+        8 => row[8],
+        9 => row[9],
+        10 => row[10],
+        11 => row[11],
+        12 => row[12],
+        13 => row[13],
+        14 => row[14],
+        15 => row[15],
+        _ => 0,
+    }
+}
+
 // The answer of a device with n states and m commands, from the state's row. Code 5 for what is no state or no command.
 pub fn answer(n: u64, m: u64, state: u64, command: u64, row: &[u64]) -> LookupResult
     ensures { λ r. ⌜ r ≡ answerOf n m state command (getD (now (row .entry)) command 0) ⌝ }
@@ -48,7 +76,7 @@ pub fn answer(n: u64, m: u64, state: u64, command: u64, row: &[u64]) -> LookupRe
             mask: 0,
         };
     }
-    let mask = entry_at(row, command as usize);
+    let mask = mask_at(row, command);
     LookupResult {
         code: 0,
         place: 0,

@@ -12,7 +12,9 @@ use lib.Dec.{T, leb}
 use lib.ListN.{length, getD, set, take, drop, replicate, length-drop, length-append, drop-of-length-le, List·getD-eq-default}
 use lib.Seq.{set-out, set-set, set-comm, sets, sets-eq, drop-cons, drop-drop, take-at, length-take-le}
 use Rattle.base.specs.Lists.{Each, Bytes}
-use Rattle.base.proofs.Lists.{each-at}
+use Rattle.base.proofs.Lists.{each-at, each-of}
+use mir.Syntax.{w8}
+use mir.Val.{Fits}
 use Rattle.octets.specs.Le.{bytesLe}
 use Rattle.octets.specs.Parts.{le, leAt, piece}
 use Rattle.octets.proofs.Le.{bytesLe-le}
@@ -190,6 +192,10 @@ each-piece P z (suc n) s p h = (go (decLt p (length s)), each-piece P z n s (suc
     go : Dec (p < length s) → P (getD s p 0)
     go (yes l) = each-at P s h p 0 l
     go (no l) = subst P (sym (List·getD-eq-default s 0 (omega arith))) z
+
+-- the elements of a slice of bytes are bytes
+pub each-byte : (s : List ℕ) → ((i : ℕ) → Fits w8 (getD s i 0)) → Bytes s
+each-byte s h = each-of (λ x. x < 256) s 0 (λ i l. omega (arith, h i))
 
 -- the bytes of the number that some bytes are
 pub bytes-piece : (n : ℕ) (s : List ℕ) → Bytes s → (p : ℕ) → p + n ≤ length s → bytesLe n (leAt n s p) ≡ piece n s p

@@ -1,16 +1,17 @@
 -- A slot read and stored part by part. Assumes nothing.
-use mathlib.Core.Path.{_≡_, refl, sym, ap, _∙_}
+use mathlib.Core.Path.{_≡_, refl, sym, ap, _∙_, ap₂}
 use mathlib.Core.List.{List, [], _∷_, _++_, append-assoc}
-use Prim.Native.Nat.{ℕ, _+_, _*_, _/_, _%_, _≤_, _<_}
+use Prim.Native.Nat.{ℕ, _+_, _*_, _/_, _%_, _≤_, _<_, _-_}
 use native.Mathlib.Omega.{arith}
 use lib.ListN.{length, getD, length-append}
 use lib.Seq.{sets}
+use Rattle.base.specs.Lists.{Bytes}
 use Rattle.reversal.specs.Reversal.{Item}
 use Rattle.reversal.specs.Chains.{item}
 use Rattle.octets.specs.Le.{bytesLe}
-use Rattle.octets.specs.Parts.{piece}
+use Rattle.octets.specs.Parts.{piece, leAt}
 use Rattle.octets.proofs.Le.{length-bytesLe}
-use Rattle.octets.proofs.Put.{first, then, length-piece, piece-get}
+use Rattle.octets.proofs.Put.{first, then, length-piece, piece-get, Wrote, over, piece-split, bytes-piece}
 use Rattle.book.specs.Book.{Book}
 use Rattle.book.specs.Lent.{padded, slotOf}
 use Rattle.book.specs.Slots.{itemAt}
@@ -19,6 +20,7 @@ use Rattle.items.specs.declared.Parts.{Parts}
 use Rattle.items.specs.Items.{heldIn, ItemStands, PartsAt}
 use Rattle.items.proofs.Laws.{allowed, item-is}
 use Rattle.slots.specs.Filled.{headFrom, tailFrom, SlotFilled}
+use Rattle.slots.specs.Stored.{partsOf, Counted}
 
 -- ---- the fields of the item in slot a
 module _ (s : List ℕ) (a : ℕ) where
@@ -36,14 +38,42 @@ module _ (s : List ℕ) (a : ℕ) where
       let k = getD s (34 * a + 1) 0 in
       e ∙ sym (piece-get k s (34 * a + 10) x (omega (arith, length-piece k s (34 * a + 10))))
 
-  module _ (d d′ : List ℕ) (at count : ℕ) where
-    pub forward-put : d′ ≡ sets d at (piece count s (34 * a + 2)) → count ≡ length (itemAt s a .forward) → d′ ≡ sets d at (itemAt s a .forward)
-    unfolding itemAt
-    forward-put p e = p ∙ ap (λ (n : ℕ). sets d at (piece n s (34 * a + 2))) (e ∙ length-piece _ s (34 * a + 2))
+-- ---- its commands and masks, stored one after the other
+module _ (s : List ℕ) (b : Bytes s) (a k r : ℕ) (c : Counted s a k r) (d₀ d₁ d₂ d₃ d₄ : List ℕ) where
+  eight : (n p : ℕ) → n ≤ 8 → p + 8 ≤ length s → bytesLe 8 (leAt 8 s p) ≡ piece n s p ++ piece (8 - n) s (p + n)
+  eight n p h l = bytes-piece 8 s b p l ∙ piece-split n (8 - n) 8 s p (p + n) (omega arith) refl
 
-    pub reverse-put : d′ ≡ sets d at (piece count s (34 * a + 10)) → count ≡ length (itemAt s a .reverse) → d′ ≡ sets d at (itemAt s a .reverse)
-    unfolding itemAt
-    reverse-put p e = p ∙ ap (λ (n : ℕ). sets d at (piece n s (34 * a + 10))) (e ∙ length-piece _ s (34 * a + 10))
+  pub parts-put : (v w phi psi : ℕ) → v ≡ leAt 8 s (34 * a + 2) → w ≡ leAt 8 s (34 * a + 10) → phi ≡ itemAt s a .phi
+      → psi ≡ itemAt s a .psi → d₁ ≡ sets d₀ 0 (bytesLe 8 v) → d₂ ≡ sets d₁ k (bytesLe 8 w) → d₃ ≡ sets d₂ (k + r) (bytesLe 8 phi)
+      → d₄ ≡ sets d₃ (k + r + 8) (bytesLe 8 psi) → d₄ ≡ sets d₀ 0 (partsOf (itemAt s a))
+  unfolding itemAt partsOf
+  parts-put v w phi psi ev ew ep eq e₁ e₂ e₃ e₄ =
+      let q = 34 * a in
+      let K = getD s q 0 in
+      let R = getD s (q + 1) 0 in
+      let ek : k ≡ K = c .forward ∙ length-piece K s (q + 2) in
+      let er : r ≡ R = c .reverse ∙ length-piece R s (q + 10) in
+      let room = c .room in
+      let few = c .few in
+      let few-reverse = c .few-reverse in
+      let f = piece K s (q + 2) in
+      let g = piece (8 - K) s (q + 2 + K) in
+      let x = piece R s (q + 10) in
+      let y = piece (8 - R) s (q + 10 + R) in
+      let lf = length-piece K s (q + 2) in
+      let lg = length-piece (8 - K) s (q + 2 + K) in
+      let lx = length-piece R s (q + 10) in
+      let ly = length-piece (8 - R) s (q + 10 + R) in
+      let one : Wrote d₀ 0 (f ++ g) d₁ =
+      first d₀ 0 (f ++ g) (e₁ ∙ ap (sets d₀ 0) (ap (bytesLe 8) ev ∙ eight K (q + 2) (omega arith) (omega arith))) in
+      let two : Wrote d₀ 0 (f ++ (x ++ y)) d₂ =
+      over f g one k (x ++ y) (omega arith) (omega (arith, length-append x y))
+      (e₂ ∙ ap (sets d₁ k) (ap (bytesLe 8) ew ∙ eight R (q + 10) (omega arith) (omega arith))) in
+      let both : Wrote d₀ 0 (f ++ x ++ y) d₂ = first d₀ 0 (f ++ x ++ y) (two .is ∙ ap (sets d₀ 0) (sym (append-assoc f x y))) in
+      let three : Wrote d₀ 0 (f ++ x ++ bytesLe 8 phi) d₃ =
+      over (f ++ x) y both (k + r) (bytesLe 8 phi) (omega (arith, length-append f x)) (omega (arith, length-bytesLe 8 phi)) e₃ in
+      then three (k + r + 8) (bytesLe 8 psi) (omega (arith, length-append (f ++ x) (bytesLe 8 phi), length-append f x, length-bytesLe 8 phi)) e₄ .is
+      ∙ ap₂ (λ (i j : ℕ). sets d₀ 0 (f ++ x ++ bytesLe 8 i ++ bytesLe 8 j)) ep eq
 
 -- ---- a slot stored
 counts-put : (k r : ℕ) → k ≤ 8 → r ≤ 8 → bytesLe 2 (k + 256 * r) ≡ k ∷ r ∷ []

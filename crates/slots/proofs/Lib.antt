@@ -1,3 +1,4 @@
 pub mod Commands
 pub mod Laws
 pub mod Tests
+pub mod Words

@@ -1,7 +1,8 @@
 // The items in lent slots: 34 bytes each, with k, r, eight forward and eight reverse commands, phi and psi. This module alone knows their places
 // there. Every call takes any bytes and any slot's number; past the end there are zeros, and nothing is stored.
 ghost use mathlib.Core.Path.{_≡_};
-ghost use Prim.Native.Nat.{_≤_, _<_};
+ghost use mathlib.Core.Bool.{true};
+ghost use Prim.Native.Nat.{ℕ, _+_, _≤_, _<_};
 ghost use lib.ListN.{length, getD};
 ghost use lib.Seq.{sets};
 ghost use Rattle.octets.specs.Le.{bytesLe};
@@ -9,6 +10,7 @@ ghost use Rattle.octets.specs.Parts.{piece};
 ghost use Rattle.book.specs.Lent.{padded};
 ghost use Rattle.book.specs.Slots.{itemAt, slotFine};
 ghost use Rattle.slots.specs.Filled.{headFrom, tailFrom, SlotFilled};
+ghost use Rattle.slots.specs.Stored.{partsOf, Counted};
 
 // The bytes of a slot.
 const SLOT_LEN: usize = 34;
@@ -46,24 +48,76 @@ pub fn psi(slots: &[u8], a: u8) -> u64
     octets::u64_at(slots, SLOT_LEN * a as usize + 26)
 }
 
-// Stores its forward commands in d, from `at` on, for who knows their number.
-pub fn put_forward(slots: &[u8], a: u8, count: usize, d: &mut [u8], at: usize)
-    ensures { λ _. ⌜ (count ≡ length (itemAt (now (slots .entry)) a .forward)
-        → now (d .exit) ≡ sets (now (d .entry)) at (itemAt (now (slots .entry)) a .forward)) ⌝ }
+// Stores its commands and masks in d, one after the other, for who knows the numbers of its commands. Each part is stored as eight bytes; the next one
+// goes over those that were too many.
+pub fn put_parts(slots: &[u8], a: u8, k: usize, r: usize, d: &mut [u8])
+    ensures { λ _. ⌜ (Counted (now (slots .entry)) a k r → now (d .exit) ≡ sets (now (d .entry)) 0 (partsOf (itemAt (now (slots .entry)) a))) ⌝ }
 {
-    octets::copy(count, slots, SLOT_LEN * a as usize + 2, d, at);
+    if 8 < k {
+        return;
+    }
+    if 8 < r {
+        return;
+    }
+    let q = SLOT_LEN * a as usize;
+    if slots.len() < q + SLOT_LEN {
+        return;
+    }
+    octets::put_le(8, octets::u64_at(slots, q + 2), d, 0);
+    octets::put_le(8, octets::u64_at(slots, q + 10), d, k);
+    octets::put_le(8, phi(slots, a), d, k + r);
+    octets::put_le(8, psi(slots, a), d, k + r + 8);
 }
 
-// Stores its reverse commands.
-pub fn put_reverse(slots: &[u8], a: u8, count: usize, d: &mut [u8], at: usize)
-    ensures { λ _. ⌜ (count ≡ length (itemAt (now (slots .entry)) a .reverse)
-        → now (d .exit) ≡ sets (now (d .entry)) at (itemAt (now (slots .entry)) a .reverse)) ⌝ }
+// The larger of two bytes.
+fn larger(a: u8, b: u8) -> u8
+    ensures { λ r. ⌜ (a ≤ r) × (b ≤ r) ⌝ }
 {
-    octets::copy(count, slots, SLOT_LEN * a as usize + 10, d, at);
+    if a < b { b } else { a }
 }
 
-// Whether slot a keeps an item's limits, for n states and m commands, and has zeros in its unused command bytes.
-pub fn fine(slots: &[u8], a: u8, n: u64, m: u64) -> bool
+// The largest of the 16 bytes from p on.
+fn largest(s: &[u8], p: usize) -> u8
+    requires { ⌜ p + 16 ≤ length (now s) ⌝ }
+    ensures { λ r. ⌜ ((i : ℕ) → i < 16 → getD (now (s .entry)) (p + i) 0 ≤ r) ⌝ }
+{
+    let mut top: u8 = 0;
+    for i in 0..16 {
+        top = larger(top, s[p + i]);
+    }
+    top
+}
+
+// Whether slot a is fine, as far as eight bytes at a time tell: every command byte is below m, and those past k and r are 0.
+fn fine_by_words(slots: &[u8], a: u8, n: u64, m: u64) -> bool
+    ensures { λ x. ⌜ (x ≡ true → slotFine n m (now (slots .entry)) a ≡ true) ⌝ }
+{
+    let q = SLOT_LEN * a as usize;
+    if slots.len() < q + SLOT_LEN {
+        return false;
+    }
+    let k = octets::byte_at(slots, q);
+    let r = octets::byte_at(slots, q + 1);
+    if !limits::counts_fine(k, r) {
+        return false;
+    }
+    if m <= largest(slots, q + 2) as u64 {
+        return false;
+    }
+    if !limits::mask_fine(octets::u64_at(slots, q + 2), 8 * k) {
+        return false;
+    }
+    if !limits::mask_fine(octets::u64_at(slots, q + 10), 8 * r) {
+        return false;
+    }
+    if !limits::mask_fine(octets::u64_at(slots, q + 18), n) {
+        return false;
+    }
+    limits::mask_fine(octets::u64_at(slots, q + 26), n)
+}
+
+// Whether slot a, byte by byte, keeps an item's limits, for n states and m commands, and has zeros in its unused command bytes.
+fn fine_by_bytes(slots: &[u8], a: u8, n: u64, m: u64) -> bool
     ensures { λ x. ⌜ x ≡ slotFine n m (now (slots .entry)) a ⌝ }
 {
     let q = SLOT_LEN * a as usize;
@@ -86,6 +140,16 @@ pub fn fine(slots: &[u8], a: u8, n: u64, m: u64) -> bool
         return false;
     }
     limits::all_below(&slots[b..q + 18], 1)
+}
+
+// Whether slot a keeps an item's limits, for n states and m commands, and has zeros in its unused command bytes.
+pub fn fine(slots: &[u8], a: u8, n: u64, m: u64) -> bool
+    ensures { λ x. ⌜ x ≡ slotFine n m (now (slots .entry)) a ⌝ }
+{
+    if fine_by_words(slots, a, n, m) {
+        return true;
+    }
+    fine_by_bytes(slots, a, n, m)
 }
 
 // The number whose eight bytes are the commands that stand at p of a book, with zeros behind them.

@@ -4,11 +4,6 @@ use mathlib.Core.Bool.{true, false, not}
 use mathlib.Core.List.{List, []}
 use Prim.Native.Nat.{ℕ, _*_, _<_, _≤_}
 use native.Mathlib.Omega.{arith}
-use lib.ListN.{getD}
-use mir.Syntax.{w8}
-use mir.Val.{Fits}
-use Rattle.base.specs.Lists.{Each}
-use Rattle.base.proofs.Lists.{each-of}
 use Rattle.base.specs.Sizes.{LongEnough}
 use Rattle.base.specs.Shorter.{anyShort}
 use Rattle.base.proofs.Sizes.{long-off, short-on}
@@ -78,7 +73,3 @@ counts-fine n m c s h =
   where
     right : (i : ℕ) → i < c → AllowedItem (tabled n m []) (itemAt s i)
     right i l = item-fine (tabled n m []) s i (passes (slotFine n m s) c i (omega arith) l)
-
--- the elements of a slice of bytes are bytes
-pub each-byte : (s : List ℕ) → ((i : ℕ) → Fits w8 (getD s i 0)) → Each (λ x. x < 256) s
-each-byte s h = each-of (λ x. x < 256) s 0 (λ i l. omega (arith, h i))

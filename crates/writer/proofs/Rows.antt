@@ -1,11 +1,10 @@
 -- The loops of the pass: one turn stores one record, and the rest is left. Assumes nothing.
 use mathlib.Core.Path.{_≡_, refl, sym, ap, _∙_}
 use mathlib.Core.Bool.{Bool, true, false}
-use mathlib.Core.List.{List, [], _∷_, _++_, map}
-use Prim.Native.Nat.{ℕ, suc, _+_, _-_, _*_, _/_, _%_, _<_, _≤_}
-use native.Mathlib.Nat.{mul-le-mul-right}
+use mathlib.Core.List.{List, [], _∷_, _++_, map, append-assoc}
+use Prim.Native.Nat.{ℕ, zero, suc, _+_, _-_, _*_, _<_, _≤_}
+use native.Mathlib.Nat.{zero-add, add-suc, suc-add, zero-mul, suc-mul}
 use native.Mathlib.Numerals.{add-one}
-use native.Mathlib.Decide.{decLt}
 use native.Mathlib.Omega.{arith}
 use lib.Arith.{digits-div, digits-mod}
 use lib.ListN.{length, getD, length-append}
@@ -19,8 +18,7 @@ use Rattle.octets.specs.Parts.{piece}
 use Rattle.book.specs.Book.{frame, framed, twoBytes, moveRec, itemRec}
 use Rattle.book.specs.Slots.{itemAt}
 use Rattle.book.specs.Buffers.{moveAt, movesFrom, itemsFrom}
-use Rattle.writer.specs.declared.records.Cell.{Cell}
-use Rattle.writer.specs.Records.{move, entryRow, CellAt, entryBytes, movesBytes, itemsBytes}
+use Rattle.writer.specs.Records.{move, entryRow, entryBytes, movesBytes, itemsBytes}
 
 -- ---- one entry
 module _ (mask state command : ℕ) where
@@ -33,28 +31,37 @@ module _ (mask state command : ℕ) where
   row-some z = same-no _ [] _ _ 0 z refl
 
 -- counted by state and command it is the entry of the table
-module _ {m i : ℕ} {cell : Cell} (at : CellAt m i cell) where
-  pub entry-is : (t : List ℕ) (mask : ℕ) → mask ≡ getD t i 0 → entryRow mask (cell .state) (cell .command) ≡ entryBytes t i m
-  unfolding entryRow entryBytes moveAt
-  entry-is t mask e = rw (e, ← state-is, ← command-is)
-    where
-      state-is : i / m ≡ cell .state
-      state-is = ap (λ (x : ℕ). x / m) (sym (at .place)) ∙ digits-div (cell .state) (at .below)
-
-      command-is : i % m ≡ cell .command
-      command-is = ap (λ (x : ℕ). x % m) (sym (at .place)) ∙ digits-mod (cell .state) (at .below)
-
-  pub state-low : i < 64 * m → cell .state < 64
-  state-low h = go (decLt (cell .state) 64)
-    where
-      go : Dec (cell .state < 64) → cell .state < 64
-      go (yes l) = l
-      go (no l) = let k : 64 * m ≤ cell .state * m = mul-le-mul-right m (omega arith) in absurd (omega (arith, at .place))
+pub entry-is : (t : List ℕ) (m state command mask : ℕ) → command < m → mask ≡ getD t (state * m + command) 0
+    → entryRow mask state command ≡ entryBytes t (state * m + command) m
+unfolding entryRow entryBytes moveAt
+entry-is t m state command mask h e = rw (e, digits-div state h, digits-mod state h)
 
 -- ---- rows that a loop stores one by one: `one i` in turn i, `left k i` in the k turns from i on
 pub record Turns (one : ℕ → List ℕ) (left : ℕ → ℕ → List ℕ) : Type 0 where
   pub none : (i : ℕ) → left 0 i ≡ []
   pub more : (k i : ℕ) → left (suc k) i ≡ one i ++ left k (suc i)
+
+module _ {one : ℕ → List ℕ} {left : ℕ → ℕ → List ℕ} (rows : Turns one left) where
+  -- the turns from `first` on
+  pub rows-from : (first : ℕ) → Turns (λ i. one (first + i)) (λ k i. left k (first + i))
+  rows-from first = record { none = λ i. rows .none (first + i); more = λ k i. rw (add-suc first i) (rows .more k (first + i)) }
+
+  rows-split : (a b i : ℕ) → left (a + b) i ≡ left a i ++ left b (a + i)
+  rows-split zero b i = rw (zero-add b, zero-add i, rows .none i)
+  rows-split (suc a) b i =
+      rw (suc-add a b, suc-add a i, rows .more (a + b) i, rows .more a i, append-assoc (one i) (left a (suc i)), rows-split a b (suc i), add-suc a i)
+
+  -- m turns at a time
+  pub rows-by : (m : ℕ) → Turns (λ i. left m (i * m)) (λ k i. left (k * m) (i * m))
+  rows-by m =
+      record {
+        none = λ i. rw (zero-mul m) (rows .none (i * m));
+        more =
+            λ k i.
+            let e : suc k * m ≡ m + k * m = omega (arith, suc-mul k m) in
+            let f : suc i * m ≡ m + i * m = omega (arith, suc-mul i m) in
+            rw (e, f) (rows-split m (k * m) (i * m));
+      }
 
 module _ {one : ℕ → List ℕ} {left : ℕ → ℕ → List ℕ} (rows : Turns one left) (n i : ℕ) where
   turn : i < n → left (n - i) i ≡ one i ++ left (n - (i + 1)) (i + 1)

@@ -1,14 +1,11 @@
 -- The bytes that the writer's functions store, in the code's order; proofs/ ties them to `bytesOf`. Assumes nothing: these are definitions.
-use mathlib.Core.Path.{_≡_}
 use mathlib.Core.List.{List, [], _++_, map}
-use Prim.Native.Nat.{ℕ, _+_, _*_, _<_, _≤_}
+use Prim.Native.Nat.{ℕ, _+_, _<_, _≤_}
 use lib.ListN.{length, getD}
 use Rattle.base.specs.Tests.{pick}
 use Rattle.base.specs.Compare.{same}
-use Rattle.reversal.specs.Reversal.{Item}
 use Rattle.octets.specs.Le.{bytesLe}
 use Rattle.book.specs.Book.{Move, frame, framed, moveRec, itemRec}
-use Rattle.writer.specs.declared.records.Cell.{Cell}
 use Rattle.book.specs.Slots.{itemAt}
 use Rattle.book.specs.Buffers.{moveAt, movesFrom, itemsFrom}
 
@@ -23,21 +20,13 @@ entryRow mask state command = pick (same mask 0) [] (frame (moveRec (move state 
 unfoldable pub entryBytes : List ℕ → ℕ → ℕ → List ℕ
 entryBytes t i m = pick (same (getD t i 0) 0) [] (frame (moveRec (moveAt t i m)))
 
--- entry i is that of the state and the command
-pub record CellAt (m i : ℕ) (cell : Cell) : Type 0 where
-  pub place : cell .state * m + cell .command ≡ i
-  pub below : cell .command < m
-
 -- the records of the k entries from i on
 unfoldable pub movesBytes : ℕ → List ℕ → ℕ → ℕ → List ℕ
 movesBytes k t i m = framed (map moveRec (movesFrom k t i m))
 
--- the record of an item in two parts
+-- the record of an item before its commands and masks, which are `partsOf`
 unfoldable pub itemHead : ℕ → ℕ → List ℕ
 itemHead k r = bytesLe 2 (18 + k + r) ++ bytesLe 2 3 ++ bytesLe 1 k ++ bytesLe 1 r
-
-unfoldable pub itemTail : Item → List ℕ
-itemTail x = x .forward ++ x .reverse ++ bytesLe 8 (x .phi) ++ bytesLe 8 (x .psi)
 
 -- the records of the c slots from slot i on
 unfoldable pub itemsBytes : ℕ → List ℕ → ℕ → List ℕ

@@ -1,7 +1,9 @@
 // What writing refuses: weights out of range, entries with a bit at n or above, slots that hold no item as it should stand there.
 ghost use mathlib.Core.Path.{_≡_};
-ghost use Prim.Native.Nat.{_≤_};
-ghost use lib.ListN.{getD};
+ghost use mathlib.Core.Bool.{true};
+ghost use Prim.Native.Nat.{ℕ, _≤_, _<_};
+ghost use lib.ListN.{length, getD};
+ghost use Rattle.base.specs.Masks.{clearFrom};
 ghost use Rattle.writer.specs.Lowest.{lowestWeight, lowestEntry, lowestSlot};
 
 // The entry i of a table, or 0 past its end.
@@ -25,10 +27,29 @@ pub(crate) fn lowest_weight(k: usize, w: &[u16]) -> usize
     i
 }
 
-// The lowest of the first k entries with a bit at n or above; k where there is none.
+// All states of the first k entries.
+fn union(k: usize, t: &[u64]) -> u64
+    requires { ⌜ (k ≤ 2048) × (k ≤ length (now t)) ⌝ }
+    ensures { λ r. ⌜ ((n i : ℕ) → i < k → clearFrom n r ≡ true → clearFrom n (getD (now (t .entry)) i 0) ≡ true) ⌝ }
+{
+    let mut all: u64 = 0;
+    for i in 0..k {
+        all = all | t[i];
+    }
+    all
+}
+
+// The lowest of the first k entries with a bit at n or above; k where there is none, which their union tells.
 pub(crate) fn lowest_entry(n: u64, k: usize, t: &[u64]) -> usize
+    requires { ⌜ (k ≤ 2048) × (k ≤ length (now t)) ⌝ }
     ensures { λ r. ⌜ r ≡ lowestEntry n k (now (t .entry)) ⌝ }
 {
+    if 64 <= n {
+        return k;
+    }
+    if limits::mask_fine(union(k, t), n) {
+        return k;
+    }
     let mut i: usize = 0;
     while i < k {
         if !limits::mask_fine(entry_at(t, i), n) {

@@ -12,11 +12,11 @@ use Rattle.lookups.proofs.answer.Tie as tie
 returns : tie.Need-returns
 returns c = ⊎-elim (λ w. no-state _ _ _ _ _ (omega arith)) (λ w. no-command _ _ _ _ _ (omega (arith, leb-true))) (c .if1 .came)
 
-entry-at-requires : tie.Need-entry-at-requires
-entry-at-requires c κs = search needs
+mask-at-requires : tie.Need-mask-at-requires
+mask-at-requires c κs = search needs
 
 returns-2 : tie.Need-returns-2
-returns-2 c = ap found (c .entry-at .ensures) ∙ mask-found _ _ _ _ _ (omega (arith, leb-false)) (omega (arith, leb-false))
+returns-2 c = ap found (c .mask-at .ensures) ∙ mask-found _ _ _ _ _ (omega (arith, leb-false)) (omega (arith, leb-false))
 
 pub answer-spec : {M : Type 1} → statement M
-answer-spec = tie.close (tie.spec returns entry-at-requires returns-2)
+answer-spec = tie.close (tie.spec returns mask-at-requires returns-2)

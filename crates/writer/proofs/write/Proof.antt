@@ -7,13 +7,14 @@ use borrow.Author.Needs.{needs}
 use borrow.Author.Tests.{not-true, not-false}
 use Rattle.base.specs.Lists.{Bytes}
 use Rattle.base.specs.Sizes.{LongEnough}
+use Rattle.octets.proofs.Put.{each-byte}
 use Rattle.book.specs.Book.{AllowedDevice}
 use Rattle.book.specs.Lent.{Lent, lent}
 use Rattle.book.proofs.Limits.{device-on, no-device}
 use Rattle.writer.specs.Writes.{buffers, refusal, written}
 use Rattle.writer.specs.Lowest.{lowestWeight, lowestEntry, lowestSlot}
 use Rattle.writer.proofs.Stores.{cells-below}
-use Rattle.writer.proofs.Chain.{at-short, at-device, at-count, at-weight, at-entry, at-slot, at-end, counts-fine, each-byte}
+use Rattle.writer.proofs.Chain.{at-short, at-device, at-count, at-weight, at-entry, at-slot, at-end, counts-fine}
 use Rattle.writer.proofs.write.Statement.{statement}
 use Rattle.writer.proofs.write.Tie as tie
 
@@ -119,7 +120,11 @@ mul-cells c =
     omega (arith, cells-below (a .n) (a .m) (omega arith))
 
 lowest-entry-requires : tie.Need-lowest-entry-requires
-lowest-entry-requires c κs = search needs
+lowest-entry-requires c κs =
+    let d = c .before .before .before .before in
+    let a = start d .args in
+    let e = device d (c .before .before .before .if5 .left) in
+    omega (arith, cells-below (a .n) (a .m) (omega arith))
 
 refused-requires-8 : tie.Need-refused-requires-8
 refused-requires-8 c κs = search needs
@@ -172,7 +177,7 @@ put-book-requires c κs =
     let a = start d .args in
     let e = device d (c .before .before .before .before .before .before .before .before .if5 .left) in
     let h : a .items ≤ lowestSlot (a .n) (a .m) (a .items) (a .slots .now) = rw (c .before .before .lowest-slot .ensures) at (c .before .if9 .left) in
-    (omega arith, omega arith, omega arith, omega arith, counts-fine (a .n) (a .m) (a .items) (a .slots .now) h)
+    (omega arith, omega arith, omega arith, counts-fine (a .n) (a .m) (a .items) (a .slots .now) h, omega arith, omega arith, omega arith)
 
 same-length : tie.Need-same-length
 same-length c = search needs

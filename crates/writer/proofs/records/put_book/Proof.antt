@@ -22,17 +22,16 @@ put-device-requires c κs = search needs
 put-weights-requires : tie.Need-put-weights-requires
 put-weights-requires c κs = search needs
 
-mul-put-moves : tie.Need-mul-put-moves
-mul-put-moves c = let a = c .before .before .before .before .before .before .before .before .before .before .before .before .args in omega (arith, cells-below (a .n) (a .m) (omega arith))
-
 put-moves-requires : tie.Need-put-moves-requires
-put-moves-requires c κs = let a = c .before .before .before .before .before .before .before .before .before .before .before .before .before .args in omega (arith, cells-below (a .n) (a .m) (omega arith))
+put-moves-requires c κs =
+    let a = c .before .before .before .before .before .before .before .before .before .before .before .before .before .args in
+    omega (arith, cells-below (a .n) (a .m) (omega arith))
 
 put-items-requires : tie.Need-put-items-requires
 put-items-requires c κs =
     let start = c .before .before .before .before .before .before .before .before .before .before .before .before .before .before .before .before .before in
     let k = cells-below (start .args .n) (start .args .m) (omega arith) in
-    (omega arith, omega arith, start .pre .4)
+    (omega arith, omega arith, omega arith, start .pre .3)
 
 same-length : tie.Need-same-length
 same-length c = search needs
@@ -69,7 +68,6 @@ put-book-spec =
     (tie.spec
     put-device-requires
     put-weights-requires
-    mul-put-moves
     put-moves-requires
     put-items-requires
     same-length

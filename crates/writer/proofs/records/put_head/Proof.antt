@@ -17,20 +17,11 @@ add-put-le-2 c = search needs
 put-le-requires : tie.Need-put-le-requires
 put-le-requires c κs = search needs
 
-add-put-le-3 : tie.Need-add-put-le-3
-add-put-le-3 c = search needs
-
 put-le-requires-2 : tie.Need-put-le-requires-2
 put-le-requires-2 c κs = search needs
 
-add-put-le-4 : tie.Need-add-put-le-4
-add-put-le-4 c = search needs
-
 put-le-requires-3 : tie.Need-put-le-requires-3
 put-le-requires-3 c κs = search needs
-
-add-put-le-5 : tie.Need-add-put-le-5
-add-put-le-5 c = search needs
 
 put-le-requires-4 : tie.Need-put-le-requires-4
 put-le-requires-4 c κs = search needs
@@ -46,10 +37,10 @@ returns c =
     let second = third .before .before .before .before in
     let start = second .before .before .before .before in
     let a = start .before .before .before .args in
-    then (then (then (first (a .d .now) (a .at) (bytesLe 2 (18 + a .k + a .r)) (start .put-le .ensures))
-    (a .at + 2) (bytesLe 2 3) refl (second .put-le2 .ensures))
-    (a .at + 4) (bytesLe 1 (a .k)) refl (third .put-le3 .ensures))
-    (a .at + 5) (bytesLe 1 (a .r)) refl (fourth .put-le4 .ensures) .is
+    then (then (then (first (a .d .now) 0 (bytesLe 2 (18 + a .k + a .r)) (start .put-le .ensures))
+    2 (bytesLe 2 3) refl (second .put-le2 .ensures))
+    4 (bytesLe 1 (a .k)) refl (third .put-le3 .ensures))
+    5 (bytesLe 1 (a .r)) refl (fourth .put-le4 .ensures) .is
 
 pub put-head-spec : {M : Type 1} → statement M
 put-head-spec =
@@ -58,11 +49,8 @@ put-head-spec =
     add-put-le
     add-put-le-2
     put-le-requires
-    add-put-le-3
     put-le-requires-2
-    add-put-le-4
     put-le-requires-3
-    add-put-le-5
     put-le-requires-4
     same-length
     returns)

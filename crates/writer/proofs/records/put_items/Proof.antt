@@ -13,7 +13,7 @@ use Rattle.writer.proofs.records.put_items.Statement.{statement}
 use Rattle.writer.proofs.records.put_items.Tie as tie
 
 abbrev Inv-loop : tie.InvT-loop
-Inv-loop c s d₀ at i₀ p₀ d i p =
+Inv-loop c s d₀ at p₀ i₀ d p i =
     (sets d p (itemsBytes (c - i) s i) ≡ sets d₀ at (itemsBytes c s 0))
     × (p + length (itemsBytes (c - i) s i) ≡ at + length (itemsBytes c s 0))
     × (p ≤ at + 38 * i)
@@ -21,7 +21,7 @@ Inv-loop c s d₀ at i₀ p₀ d i p =
     × (i ≤ c)
 
 abbrev μ-loop : tie.MeasureT-loop
-μ-loop c s d₀ at i₀ p₀ d i p = c - i
+μ-loop c s d₀ at p₀ i₀ d p i = c - i
 
 loop-holds : tie.Need-loop-holds Inv-loop μ-loop
 loop-holds c = (rw sub-zero, rw sub-zero, omega arith, search needs, omega arith)
@@ -32,14 +32,14 @@ cast-put-item c = search needs
 put-item-requires : tie.Need-put-item-requires Inv-loop μ-loop
 put-item-requires c κs =
     let v = c .before .before .loop in
-    let fine = c .before .before .before .before .before .pre .2 in
-    (fine .forward (v .i) (omega arith), fine .reverse (v .i) (omega arith), omega arith)
+    let fine = c .before .before .before .before .before .pre .3 in
+    (omega arith, fine .forward (v .i) (omega arith), fine .reverse (v .i) (omega arith), omega arith)
 
 add-i : tie.Need-add-i Inv-loop μ-loop
-add-i c = search needs
+add-i c = omega arith
 
 loop-less : tie.Need-loop-less Inv-loop μ-loop
-loop-less c = search needs
+loop-less c = omega arith
 
 loop-again : tie.Need-loop-again Inv-loop μ-loop
 loop-again c =

@@ -1,62 +1,56 @@
--- `writer::records::put_moves` meets its contract. The loop's invariant: storing the records of the entries that are left, from `p` on, gives the
--- whole, and its length; `cell` is entry i. The measure is the number of entries that are left. Assumes nothing.
+-- `writer::records::put_moves` meets its contract. The loop's invariant: storing the records of the states that are left, from `p` on, gives the
+-- whole, and its length. The measure is the number of states that are left. Assumes nothing.
 use mathlib.Core.Path.{_≡_}
 use Prim.Native.Nat.{_+_, _-_, _*_, _≤_}
-use native.Mathlib.Nat.{sub-zero}
+use native.Mathlib.Nat.{zero-mul, sub-zero}
 use native.Mathlib.Omega.{arith}
 use borrow.Author.Needs.{needs}
 use lib.ListN.{length}
 use lib.Seq.{sets}
-use Rattle.writer.specs.Records.{movesBytes, CellAt}
-use Rattle.writer.proofs.Rows.{rows-again, count-again, rows-done, count-done, move-rows, entry-is, state-low}
+use Rattle.writer.specs.Records.{movesBytes}
+use Rattle.writer.proofs.Stores.{row-below}
+use Rattle.writer.proofs.Rows.{rows-again, count-again, rows-done, count-done, rows-by, move-rows}
 use Rattle.writer.proofs.records.put_moves.Statement.{statement}
 use Rattle.writer.proofs.records.put_moves.Tie as tie
 
 abbrev Inv-loop : tie.InvT-loop
-Inv-loop k t m d₀ at i₀ p₀ cell₀ d i p cell =
-    (sets d p (movesBytes (k - i) t i m) ≡ sets d₀ at (movesBytes k t 0 m))
-    × (p + length (movesBytes (k - i) t i m) ≡ at + length (movesBytes k t 0 m))
-    × (p ≤ at + 14 * i)
+Inv-loop n m t d₀ at p₀ state₀ d p state =
+    (sets d p (movesBytes ((n - state) * m) t (state * m) m) ≡ sets d₀ at (movesBytes (n * m) t 0 m))
+    × (p + length (movesBytes ((n - state) * m) t (state * m) m) ≡ at + length (movesBytes (n * m) t 0 m))
+    × (p ≤ at + 14 * (state * m))
     × (length d ≡ length d₀)
-    × (i ≤ k)
-    × CellAt m i cell
+    × (state ≤ n)
 
 abbrev μ-loop : tie.MeasureT-loop
-μ-loop k t m d₀ at i₀ p₀ cell₀ d i p cell = k - i
+μ-loop n m t d₀ at p₀ state₀ d p state = n - state
 
 loop-holds : tie.Need-loop-holds Inv-loop μ-loop
-loop-holds c = (rw sub-zero, rw sub-zero, omega arith, search needs, omega arith, record { place = omega arith; below = omega arith })
+loop-holds c = (rw (sub-zero, zero-mul), rw (sub-zero, zero-mul), omega arith, search needs, omega arith)
 
-entry-at-requires : tie.Need-entry-at-requires Inv-loop μ-loop
-entry-at-requires c κs = search needs
+put-row-requires : tie.Need-put-row-requires Inv-loop μ-loop
+put-row-requires c κs =
+    let a = c .before .before .before .before .before .args in
+    let below = row-below (c .before .before .loop .state) (a .n) (a .m) (c .before .loop-test .taken) in
+    (omega arith, omega arith, omega (arith, below), omega (arith, below))
 
-put-entry-requires : tie.Need-put-entry-requires Inv-loop μ-loop
-put-entry-requires c κs = let at = c .before .before .before .loop .inv .5 in let low = state-low at (omega arith) in omega (arith, at .below)
-
-next-cell-requires : tie.Need-next-cell-requires Inv-loop μ-loop
-next-cell-requires c κs = let at = c .before .before .before .before .before .before .loop .inv .5 in let low = state-low at (omega arith) in (low, at .below, omega arith)
-
-add-i : tie.Need-add-i Inv-loop μ-loop
-add-i c = search needs
+add-state : tie.Need-add-state Inv-loop μ-loop
+add-state c = omega arith
 
 loop-less : tie.Need-loop-less Inv-loop μ-loop
-loop-less c = search needs
+loop-less c = omega arith
 
 loop-again : tie.Need-loop-again Inv-loop μ-loop
 loop-again c =
-    let a = c .before .before .before .before .before .before .before .before .before .before .args in
-    let v = c .before .before .before .before .before .before .before .loop in
-    let o = c .before .before .before .put-entry .ensures in
-    let rows = move-rows (a .t .now) (a .m) in
-    let l = c .before .before .before .before .before .before .loop-test .taken in
-    let e = entry-is (v .inv .5) (a .t .now) _ (c .before .before .before .before .before .entry-at .ensures) in
-    let next = c .next-cell .ensures in (
-      rows-again rows (a .k) (v .i) _ _ _ (v .p) _ (v .inv .0) l (rw (← e) (o .0)) (rw (← e) (o .1 .0)),
-      count-again rows (a .k) (v .i) (v .p) _ _ (v .inv .1) l (rw (← e) (o .1 .0)),
-      omega arith,
+    let v = c .before .before .before .before .before .loop in
+    let a = c .before .before .before .before .before .before .before .before .args in
+    let l = c .before .before .before .before .loop-test .taken in
+    let o = c .before .before .put-row .ensures in
+    let rows = rows-by (move-rows (a .t .now) (a .m)) (a .m) in (
+      rows-again rows (a .n) (v .state) _ _ _ (v .p) _ (v .inv .0) l (o .0) (o .1 .0),
+      count-again rows (a .n) (v .state) (v .p) _ _ (v .inv .1) l (o .1 .0),
+      omega (arith, row-below (v .state) (a .n) (a .m) l),
       search needs,
       omega arith,
-      record { place = omega (arith, next .place, v .inv .5 .place); below = next .below },
     )
 
 same-length : tie.Need-same-length Inv-loop μ-loop
@@ -64,11 +58,12 @@ same-length c = search needs
 
 returns : tie.Need-returns Inv-loop μ-loop
 returns c =
-    let a = c .before .before .before .before .args in
     let v = c .before .loop in
-    let rows = move-rows (a .t .now) (a .m) in
+    let a = c .before .before .before .before .args in
+    let rows = rows-by (move-rows (a .t .now) (a .m)) (a .m) in
     let l = c .loop-test .left in
-    (rows-done rows (a .k) (v .i) _ _ (v .p) (v .inv .0) l, (count-done rows (a .k) (v .i) (v .p) _ (v .inv .1) l, omega arith))
+    let e : v .state ≡ a .n = omega arith in
+    (rows-done rows (a .n) (v .state) _ _ (v .p) (v .inv .0) l, (count-done rows (a .n) (v .state) (v .p) _ (v .inv .1) l, (rw e at (v .inv .2))))
 
 pub put-moves-spec : {M : Type 1} → statement M
 put-moves-spec =
@@ -77,10 +72,8 @@ put-moves-spec =
     Inv-loop
     μ-loop
     loop-holds
-    entry-at-requires
-    put-entry-requires
-    next-cell-requires
-    add-i
+    put-row-requires
+    add-state
     loop-less
     loop-again
     same-length

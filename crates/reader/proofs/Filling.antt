@@ -4,12 +4,12 @@ use mathlib.Core.List.{List, [], _∷_, _++_, map, append-nil}
 use Prim.Native.Nat.{ℕ, _+_, _*_, _≤_, _<_}
 use native.Mathlib.Numerals.{add-one}
 use native.Mathlib.Omega.{arith}
-use lib.ListN.{length, getD, set, drop, drop-of-length-le}
-use lib.Seq.{sets, drop-cons}
+use lib.ListN.{length, getD, set, take, drop, drop-of-length-le}
+use lib.Seq.{sets, length-sets, drop-cons}
 use Rattle.base.specs.Lists.{Each}
 use Rattle.octets.specs.Le.{bytesLe}
 use Rattle.octets.specs.Parts.{leAt}
-use Rattle.octets.proofs.Put.{sets-append}
+use Rattle.octets.proofs.Put.{sets-past, sets-append, sets-part}
 use Rattle.reversal.specs.Reversal.{Item}
 use Rattle.reversal.specs.Chains.{absent, item}
 use Rattle.book.specs.declared.State.{State}
@@ -126,6 +126,20 @@ module _ {s : List ℕ} {b : Book} {whole : List ℕ} {at i : ℕ} {slots : List
             ∙ ap (λ (xs : List Item). sets slots (34 * i) (slotsBytes xs)) (sym cons)
             ∙ g .gives;
       }
+
+  -- in a slot that is lent by itself
+  pub part-slotted : (h : at < length s) (k : ℕ) (part : List ℕ) → k ≡ 34 → 34 * i + k ≤ length slots
+      → part ≡ sets (take k (drop (34 * i) slots)) 0 (slotOf (item (b .items) i))
+      → take (34 * i) slots ++ (part ++ drop k (drop (34 * i) slots)) ≡ sets slots (34 * i) (slotOf (item (b .items) i))
+  part-slotted h k part n l p =
+      sets-part slots part (34 * i) k (slotOf (item (b .items) i)) l (omega (arith, length-slot (deviceOf b) (item (b .items) i) (allowed (stands h)))) p
+
+  -- in a slot that is not there whole: no later one is there
+  pub last-slotted : (h : at < length s) (next : ℕ) → Begins s b (i + 1) next → (slots′ : List ℕ) → slots′ ≡ sets slots (34 * i) (slotOf (item (b .items) i))
+      → length slots < 34 * i + 34 → slots′ ≡ whole
+  last-slotted h next q slots′ e l =
+      let n = length-sets slots (34 * i) (slotOf (item (b .items) i)) in
+      sym (sets-past slots′ (34 * (i + 1)) (slotsBytes (drop (i + 1) (b .items))) (omega (arith, ap length e, n))) ∙ slotted h next q slots′ e .gives
 
   pub all-slotted : length s ≤ at → slots ≡ whole
   unfolding slotsBytes

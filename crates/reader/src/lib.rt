@@ -126,7 +126,14 @@ pub fn fill_slots(book: &[u8], first: usize, slots: &mut [u8])
         if 64 <= i {
             return;
         }
-        at = slots::fill(book, at, slots, i as u8);
+        let q = slots::SLOT_LEN * i;
+        let end = q + slots::SLOT_LEN;
+        // Where this slot is not there whole, no later one is there.
+        if slots.len() < end {
+            slots::fill(book, at, slots, i as u8);
+            return;
+        }
+        at = slots::put(book, at, &mut slots[q..end]);
         i = i + 1;
     }
 }

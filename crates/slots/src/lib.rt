@@ -13,7 +13,7 @@ ghost use Rattle.slots.specs.Filled.{headFrom, tailFrom, SlotFilled};
 ghost use Rattle.slots.specs.Stored.{partsOf, Counted};
 
 // The bytes of a slot.
-const SLOT_LEN: usize = 34;
+pub const SLOT_LEN: usize = 34;
 
 // The number of forward commands of the item in slot a.
 pub fn k(slots: &[u8], a: u8) -> u64
@@ -201,5 +201,28 @@ pub fn fill(book: &[u8], at: usize, slots: &mut [u8], a: u8) -> usize
     let q = SLOT_LEN * a as usize;
     put_head(book, item.k, item.r, item.forward, slots, q);
     put_tail(book, item.r, item.reverse, phi, psi, slots, q + 10);
+    item.next
+}
+
+// The same for a slot by itself, of 34 bytes.
+pub fn put(book: &[u8], at: usize, slot: &mut [u8]) -> usize
+    ensures { λ r. ⌜ SlotFilled (now (book .entry)) at (now (slot .entry)) 0 (now (slot .exit)) r ⌝ }
+{
+    let item = items::parts_at(book, at);
+    if 8 < item.k {
+        return item.next;
+    }
+    if 8 < item.r {
+        return item.next;
+    }
+    let forward = commands_at(book, item.forward, item.k);
+    let reverse = commands_at(book, item.reverse, item.r);
+    let phi = items::phi(book, item);
+    let psi = items::psi(book, item);
+    octets::put_le(2, (item.k + 256 * item.r) as u64, slot, 0);
+    octets::put_le(8, forward, slot, 2);
+    octets::put_le(8, reverse, slot, 10);
+    octets::put_le(8, phi, slot, 18);
+    octets::put_le(8, psi, slot, 26);
     item.next
 }

@@ -1,19 +1,30 @@
 -- The choice of an item at a point: each way through the loop over the items. Assumes nothing.
-use mathlib.Core.Path.{_≡_, refl, sym}
-use mathlib.Core.Bool.{true, false}
-use mathlib.Core.List.{List}
-use Prim.Native.Nat.{ℕ, _+_, _-_, _≤_, _<_}
+use mathlib.Core.Path.{_≡_, refl, sym, ap, _∙_, subst}
+use mathlib.Core.Bool.{Bool, true, false}
+use mathlib.Core.List.{List, foldl}
+use Prim.Native.Nat.{ℕ, zero, suc, _+_, _-_, _^_, _≤_, _<_}
+use native.Mathlib.Nat.{add-zero, add-suc}
+use native.Mathlib.Decide.{decLt}
 use native.Mathlib.Numerals.{add-one}
 use native.Mathlib.Omega.{arith}
-use lib.Dec.{leb, leb→le}
+use borrow.Author.Tests.{lt-ltb, le-ltb}
+use lib.Bits.{bitAnd}
+use lib.Count.{trailingZeros}
+use lib.Dec.{leb, ltb, leb→le}
 use lib.ListN.{length, getD}
 use Rattle.base.specs.Tests.{pick, both}
 use Rattle.base.specs.Bounded.{least}
-use Rattle.base.proofs.Tests.{true-T, both-l}
+use Rattle.base.specs.Cardinality.{member, present}
+use Rattle.base.proofs.Tests.{true-T, T-true, both-l}
+use Rattle.base.proofs.Masks.{and-in, member-in, in-member}
+use Rattle.base.proofs.Visiting.{gathered, gathered-is}
+use Rattle.base.proofs.Trailing.{trailing-zeros-lowest}
 use Rattle.base.proofs.Bounded.{least-le}
 use Rattle.reversal.specs.Reversal.{Item}
 use Rattle.reversal.specs.Computed.Least.{Links, via}
+use Rattle.assembly.specs.declared.points.Choice.{Choice}
 use Rattle.assembly.specs.Links.{fitsAt, Chosen}
+use Rattle.assembly.specs.Rows.{cheaper}
 
 -- an item that fits has room
 pub fits-room : (x : Item) (s sets : List ℕ) (j : ℕ) → fitsAt x s sets j ≡ true → length (x .forward) ≤ j
@@ -77,3 +88,74 @@ module _ (R : Links) (ns : List ℕ) (j : ℕ) where
             here = λ h. sym (via-fit a k r x fit p q e);
             lowest = λ h b m. omega (arith, least-le (R .top) (via R ns j) a b m, g .least-is);
           }
+
+-- ---- the choice among the items of a row
+-- its lowest item
+pub lowest-member : (w : ℕ) → (w ≡ 0 → ⊥) → w < 2 ^ 64 → member w (trailingZeros 64 w) ≡ true
+lowest-member w f l = T-true _ (in-member w (trailingZeros 64 w) (trailing-zeros-lowest w f l .there))
+
+-- the rest is in the row
+pub rest-member : (a b s : ℕ) → member (bitAnd a b) s ≡ true → member a s ≡ true
+rest-member a b s e = T-true _ (in-member a s (and-in a b s (member-in (bitAnd a b) s (true-T _ e)) .0))
+
+module _ (ks prices ns : List ℕ) (j : ℕ) where
+  pub cheaper-yes : (number item a r x : ℕ) → r ≡ getD prices a 0 → x ≡ getD ns (j - getD ks a 0) 0 → r + x < number
+      → record { number = r + x; item = a } ≡ cheaper ks prices ns j (record { number = number; item = item }) a
+  unfolding cheaper pick
+  cheaper-yes number item a r x p q l = rw (← p, ← q, lt-ltb (r + x) number l)
+
+  pub cheaper-no : (number item a r x : ℕ) → r ≡ getD prices a 0 → x ≡ getD ns (j - getD ks a 0) 0 → number ≤ r + x
+      → record { number = number; item = item } ≡ cheaper ks prices ns j (record { number = number; item = item }) a
+  unfolding cheaper pick
+  cheaper-no number item a r x p q l = rw (← p, ← q, le-ltb (r + x) number l)
+
+-- the row of the items that fit from point j, the numbers of their forward commands and their prices: the choice is the one among all items
+module _ (R : Links) (ks prices ns : List ℕ) (j row : ℕ) (few : R .count ≤ 64) (fits : (b : ℕ) → member row b ≡ both (ltb b (R .count)) (R .fit b j))
+    (ks-are : (b : ℕ) → b < R .count → getD ks b 0 ≡ R .k b) (prices-are : (b : ℕ) → b < R .count → getD prices b 0 ≡ R .price b) where
+  abbrev step : Choice → ℕ → Choice
+  step = cheaper ks prices ns j
+
+  -- among the items below a
+  unfoldable below : ℕ → Choice
+  below zero = record { number = R .top; item = 0 }
+  below (suc a) = pick (member row a) (step (below a) a) (below a)
+
+  chosen-below : (a : ℕ) → a ≤ R .count → Chosen R ns j a (below a .number) (below a .item)
+  unfolding below cheaper pick both
+  chosen-below zero l = choice-start R ns j
+  chosen-below (suc a) l = go (R .fit a j) refl (chosen-below a (omega arith))
+    where
+      known : a < R .count
+      known = omega arith
+
+      sum : ℕ
+      sum = getD prices a 0 + getD ns (j - getD ks a 0) 0
+
+      go : (t : Bool) → R .fit a j ≡ t → Chosen R ns j a (below a .number) (below a .item)
+          → Chosen R ns j (suc a) (below (suc a) .number) (below (suc a) .item)
+      go false f g = rw (fits a, lt-ltb a (R .count) known, f, ← add-one a) (choice-out R ns j g f)
+      go true f g = rw (fits a, lt-ltb a (R .count) known, f, ← add-one a) (cheap (decLt sum (below a .number)))
+        where
+          cheap : Dec (sum < below a .number)
+              → Chosen R ns j (a + 1) (pick (ltb sum (below a .number)) (record { number = sum; item = a }) (below a) .number)
+              (pick (ltb sum (below a .number)) (record { number = sum; item = a }) (below a) .item)
+          cheap (yes y) = rw (lt-ltb sum (below a .number) y) (choice-taken R ns j g _ _ _ f (ks-are a known) (prices-are a known) refl y)
+          cheap (no n) =
+              rw (le-ltb sum (below a .number) (omega arith)) (choice-kept R ns j g _ _ _ f (ks-are a known) (prices-are a known) refl (omega arith))
+
+  none-above : (x : ℕ) → below (R .count + x) ≡ below (R .count)
+  unfolding below pick both
+  none-above zero = ap below (add-zero (R .count))
+  none-above (suc x) =
+      ap below (add-suc (R .count) x) ∙ rw (fits (R .count + x), le-ltb (R .count + x) (R .count) (omega arith)) (none-above x)
+
+  whole : gathered step 64 (below 0) row ≡ below 64
+  unfolding below
+  whole = gathered-is step below row 64 (λ k l. refl)
+
+  pub cheapest-chosen : let c = foldl step (record { number = R .top; item = 0 }) (present 64 row) in Chosen R ns j (R .count) (c .number) (c .item)
+  unfolding below
+  cheapest-chosen =
+      let e : R .count + (64 - R .count) ≡ 64 = omega arith in
+      subst (λ (c : Choice). Chosen R ns j (R .count) (c .number) (c .item))
+      (sym (whole ∙ ap below (sym e) ∙ none-above (64 - R .count))) (chosen-below (R .count) (omega arith))

@@ -1,7 +1,7 @@
 -- Whether an item fits, as the code tests it, is whether reversal's item fits, and what it costs is what that costs; so the links agree. Assumes
 -- nothing.
 use mathlib.Core.Path.{_≡_, refl, sym, ap, _∙_}
-use mathlib.Core.Bool.{Bool, false}
+use mathlib.Core.Bool.{Bool}
 use mathlib.Core.List.{List}
 use Prim.Native.Nat.{ℕ, _+_, _-_, _≤_, _<_}
 use native.Mathlib.Decide.{decLt}
@@ -29,11 +29,8 @@ use Rattle.reversal.proofs.Fitting.{same-eq, eq-same}
 use Rattle.runs.specs.Computed.{commandOf}
 use Rattle.assembly.specs.Items.{Items, ItemsOf, WeightsOf}
 use Rattle.assembly.specs.Links.{sameAt, fitsAt, linksOf}
+use Rattle.assembly.proofs.Asking.{both-false}
 use Rattle.assembly.proofs.LinksAgree.{Agree}
-
-both-false : (b : Bool) → both false b ≡ false
-unfolding both
-both-false b = refl
 
 module _ (d : Device) (r : Run) (items : List Item) (F : Items) (fields : ItemsOf items F) (s sets : List ℕ)
     (commands : (y : ℕ) → y < last r → commandOf s y ≡ command r y) (beliefs : (y : ℕ) → y ≤ last r → getD sets y 0 ≡ belief d r y) where

@@ -1,5 +1,6 @@
 pub mod Passes
-pub mod FitTests
+pub mod Asking
+pub mod Rows
 pub mod ReverseSum
 pub mod ItemsRead
 pub mod BestItem

@@ -29,8 +29,8 @@ use Rattle.runs.proofs.Formed.{run-value}
 use Rattle.assembly.specs.declared.Assembly.{Assembly}
 use Rattle.assembly.specs.declared.chain.Counts.{Counts}
 use Rattle.assembly.specs.Believed.{Believed}
-use Rattle.assembly.specs.Items.{ItemsOf, recorded, WeightsOf}
-use Rattle.assembly.specs.Links.{linksOf, Moving, Numbered}
+use Rattle.assembly.specs.Items.{kOf, ItemsOf, recorded, WeightsOf}
+use Rattle.assembly.specs.Links.{linksOf, Moving, Short, Numbered}
 use Rattle.assembly.specs.ChainFollowed.{Walked}
 use Rattle.assembly.specs.Lent.{inBytes, Room, AllLent, roomSizes, allSizes}
 use Rattle.assembly.specs.Small.{beside}
@@ -109,10 +109,18 @@ module _ {book run : List ℕ} {l : AllLent ℕ} {f : Checking} {read : Lent} (h
       fields : ItemsOf (b .items) (recorded book places)
       fields = placed-items placed b (g .accepted .allowed) (g .accepted .bytes)
 
-      pub movable : Moving (recorded book places) (f .items)
-      movable a l =
+      forward-few : (a : ℕ) → a < f .items → (1 ≤ kOf (recorded book places) a) × (kOf (recorded book places) a ≤ 8)
+      forward-few a l =
           let known = subst (λ (n : ℕ). a < n) items-is l in
-          omega (arith, ap (λ (x : Item). length (x .forward)) (fields a known), each-at (AllowedItem (deviceOf b)) (b .items) (g .accepted .allowed .each-item) a absent known .some)
+          let k = ap (λ (x : Item). length (x .forward)) (fields a known) in
+          let x = each-at (AllowedItem (deviceOf b)) (b .items) (g .accepted .allowed .each-item) a absent known in
+          (omega (arith, k, x .some), omega (arith, k, x .most))
+
+      pub movable : Moving (recorded book places) (f .items)
+      movable a l = forward-few a l .0
+
+      pub short : Short (recorded book places) (f .items)
+      short a l = forward-few a l .1
 
     faulty-is : runFaulty (b .n) (b .m) run ≡ runFaulty (f .n) (f .m) run
     faulty-is = ap₂ (λ (n m : ℕ). runFaulty n m run) (sym n-is) (sym m-is)

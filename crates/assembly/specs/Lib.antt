@@ -1,6 +1,7 @@
 pub mod Believed
 pub mod Items
 pub mod Links
+pub mod Rows
 pub mod ChainFollowed
 pub mod Lent
 pub mod LegsRead

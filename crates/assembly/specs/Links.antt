@@ -42,6 +42,10 @@ pub record Chosen (R : Links) (ns : List ℕ) (j count number item : ℕ) : Type
 abbrev pub Moving : Items → ℕ → Type 0
 Moving F count = (a : ℕ) → a < count → 1 ≤ kOf F a
 
+-- none has more than 8
+abbrev pub Short : Items → ℕ → Type 0
+Short F count = (a : ℕ) → a < count → kOf F a ≤ 8
+
 -- the numbers of the points 0 to j, the links' top above, and for each point that has one the lowest item that begins a chain with it
 pub record Numbered (R : Links) (j : ℕ) (numbers items : List ℕ) : Type 0 where
   pub low : j ≤ 32

@@ -1,6 +1,8 @@
 // The possible states at each point of a run.
 use states::StateSet;
+ghost use mathlib.Core.Path.{_≡_};
 ghost use Prim.Native.Nat.{_≤_};
+ghost use lib.ListN.{length};
 ghost use Rattle.states.specs.StateSets.{deviceIn};
 ghost use Rattle.runs.specs.Computed.{lastOf, runOf};
 ghost use Rattle.assembly.specs.Believed.{Believed};
@@ -13,12 +15,12 @@ pub(crate) fn beliefs(
     tabled: bool,
     n: u64,
     m: u64,
-) -> [u64; 33]
-    requires { ⌜ (n ≤ 64) × (m ≤ 32) × (lastOf (now run) ≤ 32) ⌝ }
-    ensures { λ r. ⌜ Believed (deviceIn tabled (now (book .entry)) (now (masks .entry)) n m) (runOf (now (run .entry))) r ⌝ }
+    sets: &mut [u64; 33],
+)
+    requires { ⌜ (n ≤ 64) × (m ≤ 32) × (lastOf (now run) ≤ 32) × (length (now sets) ≡ 33) ⌝ }
+    ensures { λ _. ⌜ Believed (deviceIn tabled (now (book .entry)) (now (masks .entry)) n m) (runOf (now (run .entry))) (now (sets .exit)) ⌝ }
 {
     let i = runs::last_point(run);
-    let mut sets = [0u64; 33];
     sets[0] = runs::percept_at(run, 0);
     let mut j: u64 = 0;
     while j < i {
@@ -41,5 +43,4 @@ pub(crate) fn beliefs(
         );
         sets[j as usize] = set.mask;
     }
-    sets
 }

@@ -65,7 +65,8 @@ fn planned(
     if !runs::run_fine(run, found.n, found.m) {
         return refused(9, 0);
     }
-    let sets = beliefs(run, book, masks, tabled, found.n, found.m);
+    let mut sets = [0u64; 33];
+    beliefs(run, book, masks, tabled, found.n, found.m, &mut sets);
     if sets[0] == 0 {
         return refused(10, 0);
     }

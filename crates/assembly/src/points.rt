@@ -2,33 +2,82 @@
 use items::Parts;
 use states::StateSet;
 ghost use mathlib.Core.Path.{_≡_};
-ghost use Prim.Native.Nat.{_+_, _≤_, _<_};
+ghost use mathlib.Core.Bool.{true};
+ghost use Prim.Native.Nat.{ℕ, _+_, _≤_, _<_};
+ghost use lib.ListN.{length, getD};
+ghost use Rattle.base.specs.Cardinality.{member};
 ghost use Rattle.reversal.specs.Weights.{sumOf};
 ghost use Rattle.items.specs.Items.{heldIn};
 ghost use Rattle.assembly.specs.Items.{recorded};
-ghost use Rattle.assembly.specs.Links.{fitsAt, linksOf, Chosen, Moving, Numbered};
+ghost use Rattle.assembly.specs.Links.{linksOf, Moving, Short, Numbered};
+ghost use Rattle.assembly.specs.Rows.{AskedOf, Ahead, asksAt, Marked, cheapest};
 
-// Whether the item fits from point j, by the possible states at both ends.
-fn fits_at(book: &[u8], item: Parts, run: &[u8], sets: &[u64; 33], j: u64) -> bool
-    requires { ⌜ (j ≤ 32) × (item .forward + item .k ≤ item .next) ⌝ }
-    ensures { λ r. ⌜ r ≡ fitsAt (heldIn (now (book .entry)) item) (now (run .entry)) (now (sets .entry)) j ⌝ }
+// What an item asks: its forward commands as one number, lowest byte first, with the mask of as many bytes; the states above and below.
+pub struct Asked {
+    pub k: u64,
+    pub mask: u64,
+    pub commands: u64,
+    pub phi: u64,
+    pub psi: u64,
+}
+
+fn asked_by(book: &[u8], item: Parts) -> Asked
+    requires { ⌜ (1 ≤ item .k) × (item .k ≤ 8) ⌝ }
+    ensures { λ r. ⌜ AskedOf (heldIn (now (book .entry)) item) r ⌝ }
 {
     let k = item.k as u64;
-    if j < k {
-        return false;
-    }
-    let low = j - k;
-    for x in 0..k {
-        if octets::byte_at(book, item.forward + x as usize) != runs::command_at(run, low + x) {
-            return false;
-        }
-    }
+    let mask = 18446744073709551615 >> (64 - 8 * k);
+    let commands = octets::u64_at(book, item.forward);
     let phi = items::phi(book, item);
-    if !StateSet::of(sets[j as usize]).is_inside(phi) {
+    let psi = items::psi(book, item);
+    Asked {
+        k: k,
+        mask: mask,
+        commands: commands & mask,
+        phi: phi,
+        psi: psi,
+    }
+}
+
+// The run's commands from each point below i on, eight bytes as a number.
+fn look_ahead(run: &[u8], i: u64, ahead: &mut [u64; 33])
+    requires { ⌜ (i ≤ 32) × (length (now ahead) ≡ 33) ⌝ }
+    ensures { λ _. ⌜ Ahead (now (run .entry)) i (now (ahead .exit)) ⌝ }
+{
+    let mut j: u64 = 0;
+    while j < i {
+        ahead[j as usize] = octets::u64_at(run, 5 + j as usize);
+        j = j + 1;
+    }
+}
+
+// Whether the item fits from point j, by the possible states at both ends.
+fn fits_at(item: Asked, ahead: &[u64; 33], sets: &[u64; 33], j: u64) -> bool
+    requires { ⌜ (item .k ≤ j) × (j ≤ 32) ⌝ }
+    ensures { λ r. ⌜ r ≡ asksAt item (now (ahead .entry)) (now (sets .entry)) j ⌝ }
+{
+    let low = j - item.k;
+    if ahead[low as usize] & item.mask != item.commands {
         return false;
     }
-    let psi = items::psi(book, item);
-    StateSet::of(sets[low as usize]).is_inside(psi)
+    if !StateSet::of(sets[j as usize]).is_inside(item.phi) {
+        return false;
+    }
+    StateSet::of(sets[low as usize]).is_inside(item.psi)
+}
+
+// Adds item a to the row of each point up to i from which it fits.
+fn mark(item: Asked, a: u64, ahead: &[u64; 33], sets: &[u64; 33], i: u64, rows: &mut [u64; 33])
+    requires { ⌜ (a < 64) × (i ≤ 32) × (length (now rows) ≡ 33) ⌝ }
+    ensures { λ _. ⌜ Marked item (now (ahead .entry)) (now (sets .entry)) a i (now (rows .entry)) (now (rows .exit)) ⌝ }
+{
+    let mut j = item.k;
+    while j <= i {
+        if fits_at(item, ahead, sets, j) {
+            rows[j as usize] = rows[j as usize] | (1 << a);
+        }
+        j = j + 1;
+    }
 }
 
 // The sum of the weights of the item's reverse commands.
@@ -57,34 +106,23 @@ pub struct Choice {
     pub item: u8,
 }
 
-// The least sum from point j by any item, with those of the points below it known; among equals the lowest item. Each item's record is read once.
-fn best(
-    book: &[u8],
-    places: &[u16],
-    weights: &[u16],
-    count: u8,
-    run: &[u8],
-    sets: &[u64; 33],
-    fewest: &[u32; 33],
-    j: u64,
-) -> Choice
-    requires { ⌜ (count ≤ 64) × (j ≤ 32) ⌝ }
-    ensures { λ r. ⌜ Chosen
-        (linksOf (recorded (now (book .entry)) (now (places .entry))) (now (weights .entry)) (now (run .entry)) (now (sets .entry)) count)
-        (now (fewest .entry)) j count (r .number) (r .item) ⌝ }
+// The least sum from point j by an item of the row, with those of the points below it known; among equals the lowest item.
+fn best(row: u64, ks: &[u8; 64], prices: &[u32; 64], fewest: &[u32; 33], j: u64) -> Choice
+    requires { ⌜ (j ≤ 32) × ((a : ℕ) → member row a ≡ true → getD (now ks) a 0 ≤ j) ⌝ }
+    ensures { λ r. ⌜ r ≡ cheapest (now (ks .entry)) (now (prices .entry)) (now (fewest .entry)) j row ⌝ }
 {
     let mut number: u64 = 4294967295;
     let mut first: u8 = 0;
-    for a in 0..count {
-        let item = items::parts_at(book, octets::word_at(places, a as usize) as usize);
-        if fits_at(book, item, run, sets, j) {
-            let low = j - item.k as u64;
-            let sum = price(book, item, weights) + wide(fewest[low as usize]);
-            if sum < number {
-                number = sum;
-                first = a;
-            }
+    let mut rest = row;
+    while rest != 0 {
+        let a = u64::trailing_zeros(rest);
+        let low = j - ks[a as usize] as u64;
+        let sum = wide(prices[a as usize]) + wide(fewest[low as usize]);
+        if sum < number {
+            number = sum;
+            first = a as u8;
         }
+        rest = rest & (rest - 1);
     }
     Choice {
         number: number,
@@ -98,7 +136,7 @@ pub struct Points {
     pub items: [u8; 33],
 }
 
-// The numbers from point 0 upward; each point tries each item once.
+// The numbers from point 0 upward; each item is read once.
 pub(crate) fn points_of(
     book: &[u8],
     places: &[u16],
@@ -108,26 +146,28 @@ pub(crate) fn points_of(
     sets: &[u64; 33],
     i: u64,
 ) -> Points
-    requires { ⌜ (count ≤ 64) × (i ≤ 32) × Moving (recorded (now book) (now places)) count ⌝ }
+    requires { ⌜ (count ≤ 64) × (i ≤ 32) × Moving (recorded (now book) (now places)) count × Short (recorded (now book) (now places)) count ⌝ }
     ensures { λ r. ⌜ Numbered
         (linksOf (recorded (now (book .entry)) (now (places .entry))) (now (weights .entry)) (now (run .entry)) (now (sets .entry)) count)
         i (r .fewest) (r .items) ⌝ }
 {
+    let mut ahead = [0u64; 33];
+    look_ahead(run, i, &mut ahead);
+    let mut rows = [0u64; 33];
+    let mut ks = [0u8; 64];
+    let mut prices = [0u32; 64];
+    for a in 0..count {
+        let item = items::parts_at(book, octets::word_at(places, a as usize) as usize);
+        ks[a as usize] = item.k as u8;
+        prices[a as usize] = price(book, item, weights) as u32;
+        mark(asked_by(book, item), a, &ahead, sets, i, &mut rows);
+    }
     let mut fewest = [4294967295u32; 33];
     let mut items = [0u8; 33];
     fewest[0] = 0;
     let mut j: u64 = 0;
     while j < i {
-        let choice = best(
-            book,
-            places,
-            weights,
-            count as u8,
-            run,
-            sets,
-            &fewest,
-            j + 1,
-        );
+        let choice = best(rows[j as usize + 1], &ks, &prices, &fewest, j + 1);
         fewest[j as usize + 1] = choice.number as u32;
         items[j as usize + 1] = choice.item;
         j = j + 1;

@@ -89,6 +89,14 @@ module _ {s : List ℕ} {b : Book} {at : ℕ} (g : Before s b at) where
       go [] r = absurd (no-move (b .items) s at r k)
       go (x ∷ xs) r = record { left = xs; rest = past-move s at x (framed (map moveRec xs ++ map itemRec (b .items))) r }
 
+  -- no record has room
+  pub at-end : length s < at + 4 → Begins s b 0 at
+  at-end h = go (g .left) (g .rest)
+    where
+      go : (left : List Move) → drop at s ≡ framed (map moveRec left ++ map itemRec (b .items)) → Begins s b 0 at
+      go [] r = r
+      go (x ∷ xs) r = absurd (omega (arith, move-inside s at x (framed (map moveRec xs ++ map itemRec (b .items))) r))
+
   pub at-first : (leAt 2 s (at + 2) ≡ 2 → ⊥) → Begins s b 0 at
   at-first k = rw (none-left (g .left) (b .items) s at (g .rest) k) at (g .rest)
 

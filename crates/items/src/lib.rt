@@ -2,7 +2,9 @@
 // hold. This is the one module that knows the layout of these records for reading them. Every call takes any bytes; its promise speaks of every
 // allowed book whose bytes these are.
 ghost use mathlib.Core.Path.{_≡_};
-ghost use Prim.Native.Nat.{_<_, _≤_};
+ghost use Prim.Native.Nat.{_+_, _<_, _≤_};
+ghost use lib.ListN.{length};
+ghost use Rattle.octets.specs.Parts.{leAt};
 ghost use Rattle.items.specs.Items.{WeightAt, FirstMove, ItemAt, heldIn, PartsAt, FirstItem, Placed};
 
 // Where the item stands whose record begins at a place: its counts, the places of its commands each way and of its two masks, and the place past it.
@@ -112,12 +114,29 @@ pub fn first_move(book: &[u8]) -> usize
     10 + octets::u16_at(book, 6) as usize
 }
 
+// The kind of the record that begins at a place; its four first bytes are there.
+fn kind_at(book: &[u8], at: usize) -> u64
+    requires { ⌜ at + 4 ≤ length (now book) ⌝ }
+    ensures { λ r. ⌜ r ≡ leAt 2 (now (book .entry)) (at + 2) ⌝ }
+{
+    let low = book[at + 2] as u64;
+    let high = book[at + 3] as u64;
+    low + 256 * high
+}
+
 // Where the first item's record begins, or the end where there is no item: past the moves.
 pub fn first_item(book: &[u8]) -> usize
     ensures { λ r. ⌜ FirstItem (now (book .entry)) r ⌝ }
 {
     let mut at = first_move(book);
-    while octets::u16_at(book, at + 2) == 2 {
+    if book.len() < 4 {
+        return at;
+    }
+    let last = book.len() - 4;
+    while at <= last {
+        if kind_at(book, at) != 2 {
+            return at;
+        }
         at = at + 14;
     }
     at

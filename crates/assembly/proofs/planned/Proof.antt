@@ -1,5 +1,5 @@
 -- `planned` meets its contract: each way through it by a law of proofs/WaysOfAssemble, for every buffers that checking was lent. Assumes nothing.
-use mathlib.Core.Path.{sym, _∙_}
+use mathlib.Core.Path.{refl, sym, _∙_}
 use mathlib.Core.List.{List}
 use Prim.Native.Nat.{ℕ, _<_}
 use native.Mathlib.Omega.{arith}
@@ -33,7 +33,7 @@ abbrev start : tie.After-run-fine → tie.Start
 start c = c .before .before .before .before .before .before .before
 
 abbrev fine : tie.After-beliefs → tie.Else1
-fine c = c .before
+fine c = c .before .before
 
 abbrev possible : tie.After-last-point → tie.Else2
 possible c = c .before
@@ -50,7 +50,7 @@ numbered c = c .before .before
 abbrev chain : tie.After-write-chain-arg4 → tie.Else3
 chain c = c .before .before .before .before .before .before
 
-abbrev walked : tie.After-t40 → tie.After-write-chain
+abbrev walked : tie.After-t41 → tie.After-write-chain
 walked c = c .before .before .before .before .before
 
 -- ---- what holds there
@@ -82,7 +82,7 @@ fine-run c l read x =
     }
 
 numbers-known : (c : tie.After-points-of) (l read : Lent) → Check (start (fine (possible (pointed c) .before) .before)) l read
-    → Of (NumbersKnown (possible (pointed c) .before .beliefs .result) (pointed c .last-point .result) (placed c .places .result) (c .points-of .result .fewest)
+    → Of (NumbersKnown (possible (pointed c) .before .beliefs .last .1 .1 .1 .1 .1 .1 .0) (pointed c .last-point .result) (placed c .places .result) (c .points-of .result .fewest)
     (c .points-of .result .items))
     (start (fine (possible (pointed c) .before) .before)) l read
 numbers-known c l read x =
@@ -114,9 +114,9 @@ returns c l read x =
 
 beliefs-requires : tie.Need-beliefs-requires
 beliefs-requires c κs =
-    let w = fine-here c in
+    let w = fine-here (c .before) in
     let (n, m, items) = ways.limits (w .entered) (w .lends .accepted) in
-    (n, m, ways.low w)
+    (n, m, ways.low w, refl)
 
 array-read-if2 : tie.Need-array-read-if2
 array-read-if2 c = search needs
@@ -143,7 +143,9 @@ points-of-requires c κs =
     let i = p .before in
     let w = fine-here (fine (possible i .before)) in
     let (n, m, items) = ways.limits (w .entered) (w .lends .accepted) in
-    (items, omega (arith, ways.low w, i .last-point .ensures .0), ways.movable (w .entered) (w .lends .accepted) (p .places .ensures))
+    let movable = ways.movable (w .entered) (w .lends .accepted) (p .places .ensures) in
+    let short = ways.short (w .entered) (w .lends .accepted) (p .places .ensures) in
+    (items, omega (arith, ways.low w, i .last-point .ensures .0), movable, short)
 
 mul-sum : tie.Need-mul-sum
 mul-sum c = search needs
@@ -162,8 +164,8 @@ write-chain-requires c κs =
     let e = chain c in
     ways.found (numbers-known (numbered e) _ _ (start (fine (possible (pointed (numbered e)) .before) .before) .pre .checked .1 .1)) (e .if3 .left) .walkable
 
-cast-t20 : tie.Need-cast-t20
-cast-t20 c = search needs
+cast-t21 : tie.Need-cast-t21
+cast-t21 c = search needs
 
 same-length : tie.Need-same-length
 same-length c = search needs
@@ -197,7 +199,7 @@ planned-spec =
     returns-3
     slice-aggregate-write-chain
     write-chain-requires
-    cast-t20
+    cast-t21
     same-length
     same-length-2
     returns-4)

@@ -1,10 +1,10 @@
 -- `beliefs` meets its contract: a forward pass, and a backward pass over what it left. Assumes nothing.
-use mathlib.Core.Path.{refl, ap, _∙_}
+use mathlib.Core.Path.{ap, _∙_}
 use Prim.Native.Nat.{ℕ, _+_, _-_}
 use native.Mathlib.Omega.{arith}
 use borrow.Author.Needs.{needs}
 use lib.Bits.{bitAnd}
-use lib.ListN.{getD, replicate}
+use lib.ListN.{getD}
 use Rattle.reversal.specs.Device.{Device}
 use Rattle.reversal.specs.Runs.{Run}
 use Rattle.states.specs.declared.StateSet.{StateSet}
@@ -26,16 +26,16 @@ use Rattle.states.proofs.StateSet.of.Reads as of-reads
 use Rattle.states.proofs.StateSet.within.Reads as within-reads
 
 abbrev Inv-loop : tie.InvT-loop
-Inv-loop run book masks tabled n m i sets₀ j₀ sets j = Forward (deviceIn tabled book masks n m) (runOf run) i j sets
+Inv-loop run book masks tabled n m sets₀ i j₀ sets j = Forward (deviceIn tabled book masks n m) (runOf run) i j sets
 
 abbrev μ-loop : tie.MeasureT-loop
-μ-loop run book masks tabled n m i sets₀ j₀ sets j = i - j
+μ-loop run book masks tabled n m sets₀ i j₀ sets j = i - j
 
 abbrev Inv-loop2 : tie.InvT-loop2
-Inv-loop2 run book masks tabled n m i sets₀ j₀ sets j = Backward (deviceIn tabled book masks n m) (runOf run) i j sets
+Inv-loop2 run book masks tabled n m sets₀ i j₀ sets j = Backward (deviceIn tabled book masks n m) (runOf run) i j sets
 
 abbrev μ-loop2 : tie.MeasureT-loop2
-μ-loop2 run book masks tabled n m i sets₀ j₀ sets j = j
+μ-loop2 run book masks tabled n m sets₀ i j₀ sets j = j
 
 -- ---- places: the call's start, the run's last point, and the head of each pass from the end of its turn
 abbrev start : tie.After-last-point Inv-loop μ-loop Inv-loop2 μ-loop2 → tie.Start Inv-loop μ-loop Inv-loop2 μ-loop2
@@ -48,10 +48,10 @@ abbrev pointed2 : tie.At-loop2 Inv-loop μ-loop Inv-loop2 μ-loop2 → tie.After
 pointed2 c = pointed (c .before .before)
 
 abbrev head : tie.After-after Inv-loop μ-loop Inv-loop2 μ-loop2 → tie.At-loop Inv-loop μ-loop Inv-loop2 μ-loop2
-head c = c .before .before .before .before
+head c = c .before .before .before .before .before
 
 abbrev head2 : tie.After-command-at2 Inv-loop μ-loop Inv-loop2 μ-loop2 → tie.At-loop2 Inv-loop μ-loop Inv-loop2 μ-loop2
-head2 c = c .before .before .before
+head2 c = c .before .before .before .before
 
 abbrev device : tie.Start Inv-loop μ-loop Inv-loop2 μ-loop2 → Device
 device c = deviceIn (c .args .tabled) (c .args .book .now) (c .args .masks .now) (c .args .n) (c .args .m)
@@ -65,20 +65,20 @@ last-point-requires c κs = search needs
 percept-at-requires : tie.Need-percept-at-requires Inv-loop μ-loop Inv-loop2 μ-loop2
 percept-at-requires c κs = search needs
 
-array-write-sets : tie.Need-array-write-sets Inv-loop μ-loop Inv-loop2 μ-loop2
-array-write-sets c = search needs
+element-write-sets : tie.Need-element-write-sets Inv-loop μ-loop Inv-loop2 μ-loop2
+element-write-sets c = search needs
 
 loop-holds : tie.Need-loop-holds Inv-loop μ-loop Inv-loop2 μ-loop2
 loop-holds c =
     let s = start (c .before) in
-    forward-start (device s) (run-of s) _ (replicate 33 0) _ refl (omega (arith, s .pre .2, c .before .last-point .ensures .0))
+    forward-start (device s) (run-of s) _ (s .args .sets .now) _ (s .pre .3) (omega (arith, s .pre .2, c .before .last-point .ensures .0))
     (c .percept-at .ensures ∙ percept-is (s .args .run .now) 0 (omega arith))
 
 mul-of : tie.Need-mul-of Inv-loop μ-loop Inv-loop2 μ-loop2
 mul-of c = omega (arith, c .before .loop .inv)
 
-array-read-of : tie.Need-array-read-of Inv-loop μ-loop Inv-loop2 μ-loop2
-array-read-of c = omega (arith, c .before .loop .inv)
+element-copy-out-of : tie.Need-element-copy-out-of Inv-loop μ-loop Inv-loop2 μ-loop2
+element-copy-out-of c = omega (arith, c .before .loop .inv)
 
 of-requires : tie.Need-of-requires Inv-loop μ-loop Inv-loop2 μ-loop2
 of-requires c κs = search needs
@@ -90,7 +90,7 @@ after-requires : tie.Need-after-requires Inv-loop μ-loop Inv-loop2 μ-loop2
 after-requires c κs = search needs
 
 add-percept-at : tie.Need-add-percept-at Inv-loop μ-loop Inv-loop2 μ-loop2
-add-percept-at c = omega (arith, c .before .before .before .before .loop .inv)
+add-percept-at c = omega (arith, c .before .before .before .before .before .loop .inv)
 
 percept-at-requires-2 : tie.Need-percept-at-requires-2 Inv-loop μ-loop Inv-loop2 μ-loop2
 percept-at-requires-2 c κs = search needs
@@ -99,19 +99,19 @@ within-requires : tie.Need-within-requires Inv-loop μ-loop Inv-loop2 μ-loop2
 within-requires c κs = search needs
 
 add-sets : tie.Need-add-sets Inv-loop μ-loop Inv-loop2 μ-loop2
-add-sets c = omega (arith, c .before .before .before .before .before .before .loop .inv)
+add-sets c = omega (arith, c .before .before .before .before .before .before .before .loop .inv)
 
 mul-sets : tie.Need-mul-sets Inv-loop μ-loop Inv-loop2 μ-loop2
-mul-sets c = omega (arith, c .before .before .before .before .before .before .loop .inv)
+mul-sets c = omega (arith, c .before .before .before .before .before .before .before .loop .inv)
 
-array-write-sets-2 : tie.Need-array-write-sets-2 Inv-loop μ-loop Inv-loop2 μ-loop2
-array-write-sets-2 c = omega (arith, c .before .before .before .before .before .before .loop .inv)
+element-write-sets-2 : tie.Need-element-write-sets-2 Inv-loop μ-loop Inv-loop2 μ-loop2
+element-write-sets-2 c = omega (arith, c .before .before .before .before .before .before .before .loop .inv)
 
 add-j : tie.Need-add-j Inv-loop μ-loop Inv-loop2 μ-loop2
-add-j c = omega (arith, c .before .before .before .before .before .before .loop .inv)
+add-j c = omega (arith, c .before .before .before .before .before .before .before .loop .inv)
 
 loop-less : tie.Need-loop-less Inv-loop μ-loop Inv-loop2 μ-loop2
-loop-less c = omega (arith, c .before .before .before .before .before .before .loop .inv)
+loop-less c = omega (arith, c .before .before .before .before .before .before .before .loop .inv)
 
 loop-again : tie.Need-loop-again Inv-loop μ-loop Inv-loop2 μ-loop2
 loop-again c =
@@ -141,8 +141,8 @@ sub-j c = omega arith
 mul-of-2 : tie.Need-mul-of-2 Inv-loop μ-loop Inv-loop2 μ-loop2
 mul-of-2 c = omega (arith, c .before .loop2 .inv)
 
-array-read-of-2 : tie.Need-array-read-of-2 Inv-loop μ-loop Inv-loop2 μ-loop2
-array-read-of-2 c = omega (arith, c .before .loop2 .inv)
+element-copy-out-of-2 : tie.Need-element-copy-out-of-2 Inv-loop μ-loop Inv-loop2 μ-loop2
+element-copy-out-of-2 c = omega (arith, c .before .loop2 .inv)
 
 of-requires-2 : tie.Need-of-requires-2 Inv-loop μ-loop Inv-loop2 μ-loop2
 of-requires-2 c κs = search needs
@@ -151,29 +151,29 @@ command-at-requires-2 : tie.Need-command-at-requires-2 Inv-loop μ-loop Inv-loop
 command-at-requires-2 c κs = search needs
 
 add-before : tie.Need-add-before Inv-loop μ-loop Inv-loop2 μ-loop2
-add-before c = omega (arith, c .before .before .before .loop2 .inv)
+add-before c = omega (arith, c .before .before .before .before .loop2 .inv)
 
 mul-before : tie.Need-mul-before Inv-loop μ-loop Inv-loop2 μ-loop2
-mul-before c = omega (arith, c .before .before .before .loop2 .inv)
+mul-before c = omega (arith, c .before .before .before .before .loop2 .inv)
 
-array-read-before : tie.Need-array-read-before Inv-loop μ-loop Inv-loop2 μ-loop2
-array-read-before c = omega (arith, c .before .before .before .loop2 .inv)
+element-copy-out-before : tie.Need-element-copy-out-before Inv-loop μ-loop Inv-loop2 μ-loop2
+element-copy-out-before c = omega (arith, c .before .before .before .before .loop2 .inv)
 
 before-requires : tie.Need-before-requires Inv-loop μ-loop Inv-loop2 μ-loop2
 before-requires c κs = search needs
 
 mul-sets-2 : tie.Need-mul-sets-2 Inv-loop μ-loop Inv-loop2 μ-loop2
-mul-sets-2 c = omega (arith, c .before .before .before .before .loop2 .inv)
+mul-sets-2 c = omega (arith, c .before .before .before .before .before .before .loop2 .inv)
 
-array-write-sets-3 : tie.Need-array-write-sets-3 Inv-loop μ-loop Inv-loop2 μ-loop2
-array-write-sets-3 c = omega (arith, c .before .before .before .before .loop2 .inv)
+element-write-sets-3 : tie.Need-element-write-sets-3 Inv-loop μ-loop Inv-loop2 μ-loop2
+element-write-sets-3 c = omega (arith, c .before .before .before .before .before .before .loop2 .inv)
 
 loop2-less : tie.Need-loop2-less Inv-loop μ-loop Inv-loop2 μ-loop2
 loop2-less c = omega arith
 
 loop2-again : tie.Need-loop2-again Inv-loop μ-loop Inv-loop2 μ-loop2
 loop2-again c =
-    let t = c .before in
+    let t = c .before .before in
     let l = head2 t in
     let s = start (pointed2 l) in
     let a = s .args in
@@ -201,10 +201,10 @@ beliefs-spec =
     μ-loop2
     last-point-requires
     percept-at-requires
-    array-write-sets
+    element-write-sets
     loop-holds
     mul-of
-    array-read-of
+    element-copy-out-of
     of-requires
     command-at-requires
     after-requires
@@ -213,22 +213,22 @@ beliefs-spec =
     within-requires
     add-sets
     mul-sets
-    array-write-sets-2
+    element-write-sets-2
     add-j
     loop-less
     loop-again
     loop2-holds
     sub-j
     mul-of-2
-    array-read-of-2
+    element-copy-out-of-2
     of-requires-2
     command-at-requires-2
     add-before
     mul-before
-    array-read-before
+    element-copy-out-before
     before-requires
     mul-sets-2
-    array-write-sets-3
+    element-write-sets-3
     loop2-less
     loop2-again
     returns)

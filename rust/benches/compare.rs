@@ -30,7 +30,8 @@ struct Lent {
     page: Vec<u8>,
     scratch: Vec<u64>,
     structs: Vec<calls::Leg>,
-    plain_structs: Vec<rollback_plain::Leg>,
+    /// For the plain program and the fast one.
+    rust_structs: Vec<rollback_plain::Leg>,
     out: Vec<u8>,
     /// n, m and items of the book.
     device: [u64; 3],
@@ -54,7 +55,7 @@ impl Lent {
             page: vec![0; calls::PAGE_LEN],
             scratch: vec![0; calls::SCRATCH_LEN],
             structs: vec![calls::Leg::default(); calls::LEG_STRUCTS_LEN],
-            plain_structs: vec![rollback_plain::Leg::default(); calls::LEG_STRUCTS_LEN],
+            rust_structs: vec![rollback_plain::Leg::default(); calls::LEG_STRUCTS_LEN],
             out: vec![0; calls::BOOK_LEN],
             device: [r.n, r.m, r.items],
         }
@@ -108,6 +109,7 @@ const CALLS: [Call; 7] = [
         program::read(&l.book, &mut l.table, &mut l.slots, &mut l.weights).code
     }),
     CHECK,
+    // A forecast fills no buffer: its result is all that it leaves, so all of it is opaque.
     call!("forecast", |l| black_box(program::forecast(&l.book, 32)).code),
     ASSEMBLE,
     Call {
@@ -118,11 +120,11 @@ const CALLS: [Call; 7] = [
         ).code,
         plain: |l| rollback_plain::assemble_legs(
             &l.book, &l.run, &mut l.table, &mut l.slots, &mut l.weights,
-            &mut l.plan, &mut l.plain_structs,
+            &mut l.plan, &mut l.rust_structs,
         ).code,
         fast: |l| rollback_fast::assemble_legs(
             &l.book, &l.run, &mut l.table, &mut l.slots, &mut l.weights,
-            &mut l.plan, &mut l.plain_structs,
+            &mut l.plan, &mut l.rust_structs,
         ).code,
     },
     call!("page", |l| program::page(
@@ -144,7 +146,9 @@ const LOOKUPS: [Call; 2] = [
     }),
 ];
 
-/// Assembling with a scratch, by the library and by the plain program.
+/// Assembling with a scratch, by the library and by the plain program. The plain program goes over all
+/// moves for each command, the library looks them up by an index: the ratio compares two ways, not two
+/// compilers.
 #[rustfmt::skip]
 const ASSEMBLE_SMALL: [Make; 2] = [
     |l| calls::assemble_small(
@@ -248,7 +252,7 @@ fn compare_small(lent: &mut Lent, title: &str) {
 
 fn heading(title: &str, first: &str) {
     println!("\n## {title}\n");
-    println!("| {first} | verified: median (10 % to 90 %) | plain | ratio | fast | ratio |");
+    println!("| {first} | verified: median (10 % to 90 %) | plain | to plain | fast | to fast |");
     println!("|---|---|---|---|---|---|");
 }
 
@@ -321,7 +325,9 @@ fn main() {
         compare(call, &mut lent, call.name);
     }
     println!("\n## Assembling with a scratch\n");
-    println!("| book | assemble_small | assemble | ratio | assemble_small plain | ratio |");
+    println!(
+        "| book | assemble_small | assemble | to assemble | assemble_small plain | to plain |"
+    );
     println!("|---|---|---|---|---|---|");
     for (name, book, run) in &books {
         compare_small(&mut Lent::new(book.clone(), run.clone()), name);

@@ -3,7 +3,7 @@
 //! inputs (100,000).
 
 use rollback::calls as verified;
-use rollback_cases::{answers, input, number, After, Input};
+use rollback_cases::{answers, input, number_from_env, After, Input};
 use rollback_plain as plain;
 
 answers!(by_library, verified);
@@ -145,8 +145,8 @@ fn answers_as_the_first_form(input: &Input, with_lengths_at_hand: &After) {
 
 #[test]
 fn the_library_answers_as_the_plain_program() {
-    let first = number("ROLLBACK_SEED", 0);
-    let count = number("ROLLBACK_COUNT", 100_000);
+    let first = number_from_env("ROLLBACK_SEED", 0);
+    let count = number_from_env("ROLLBACK_COUNT", 100_000);
     let (mut compared, mut differ) = (0, 0);
     let mut met = [[0; ALL.len()]; CODES.len()];
     for seed in first..first + count {

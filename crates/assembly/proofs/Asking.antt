@@ -1,29 +1,27 @@
 -- What an item asks, read once, is what it takes to fit: commands as one number are equal exactly where each of them is. Assumes nothing.
-use mathlib.Core.Path.{_≡_, refl, sym, ap, ap₂, _∙_}
-use mathlib.Core.Bool.{Bool, false}
+use mathlib.Core.Path.{_≡_, refl, sym, ap, _∙_}
+use mathlib.Core.Bool.{Bool}
 use mathlib.Core.List.{List}
-use Prim.Native.Nat.{ℕ, zero, suc, _+_, _-_, _*_, _/_, _%_, _^_, _≤_, _<_}
+use Prim.Native.Nat.{ℕ, _+_, _-_, _*_, _/_, _^_, _≤_, _<_}
 use native.Mathlib.Decide.{decLt}
 use native.Mathlib.Omega.{arith}
 use borrow.Author.Tests.{lt-leb}
 use lib.Bits.{bitAnd, and-mask}
 use lib.Dec.{eqb, eqb→eq, leb}
 use lib.ListN.{length, getD}
-use lib.Pow.{mod-pow-add, ones-split, high, ones-lt}
+use lib.Pow.{ones-split, high, ones-lt}
 use lib.Seq.{ext-getD}
 use Rattle.base.specs.Tests.{both}
 use Rattle.base.specs.Lists.{Bytes}
 use Rattle.base.specs.Bounded.{all}
 use Rattle.base.specs.Masks.{inside}
-use Rattle.base.proofs.Tests.{test-same, eq-T}
-use Rattle.base.proofs.Lists.{each-of}
+use Rattle.base.proofs.Tests.{test-same, eq-T, both-false}
 use Rattle.base.proofs.Bounded.{all-at, all-of}
 use Rattle.reversal.specs.Reversal.{Item}
 use Rattle.octets.specs.Le.{bytesLe}
 use Rattle.octets.specs.Parts.{le, leAt, piece}
 use Rattle.octets.proofs.Le.{bytesLe-le}
-use Rattle.octets.proofs.LeAt.{le-suc}
-use Rattle.octets.proofs.Put.{length-piece, piece-get, each-piece}
+use Rattle.octets.proofs.Put.{length-piece, piece-get, bytes-in, low-bytes}
 use Rattle.runs.specs.Computed.{commandOf}
 use Rattle.assembly.specs.declared.points.Asked.{Asked}
 use Rattle.assembly.specs.Links.{sameAt, fitsAt}
@@ -38,43 +36,18 @@ mask-of k l h =
     ap (λ (x : ℕ). x / 2 ^ n) all-ones ∙ high (2 ^ (8 * k) - 1) n (ones-lt n)
 
 -- ---- bytes as a number
--- one byte more below a mask
-low-suc : (b v n : ℕ) → b < 256 → (b + 256 * v) % 2 ^ (n + 8) ≡ (v % 2 ^ n) * 256 + b
-low-suc b v n h =
-    let e : (b + 256 * v) / 256 ≡ v = omega arith in
-    let f : (b + 256 * v) % 256 ≡ b = omega arith in
-    mod-pow-add (b + 256 * v) n 8 ∙ ap₂ (λ (x y : ℕ). (x % 2 ^ n) * 256 + y) e f
-
--- the first k of n bytes
-first-bytes : (k n : ℕ) (s : List ℕ) (p : ℕ) → k ≤ n → ((y : ℕ) → getD s y 0 < 256) → leAt n s p % 2 ^ (8 * k) ≡ le (piece k s p)
-unfolding piece
-first-bytes zero n s p l h = omega arith
-first-bytes (suc k) zero s p l h = absurd (omega arith)
-first-bytes (suc k) (suc n) s p l h =
-    let e : 8 * suc k ≡ 8 * k + 8 = omega arith in
-    rw e
-    (ap (λ (x : ℕ). x % 2 ^ (8 * k + 8)) (le-suc n s p) ∙ low-suc (getD s p 0) (leAt n s (suc p)) (8 * k) (h p)
-    ∙ omega (arith, first-bytes k n s (suc p) (omega arith) h))
-
 -- as the code has it
-pub masked-bytes : (k : ℕ) (s : List ℕ) (p mask : ℕ) → k ≤ 8 → ((y : ℕ) → getD s y 0 < 256) → mask ≡ 2 ^ (8 * k) - 1
+pub masked-bytes : (k : ℕ) (s : List ℕ) (p mask : ℕ) → k ≤ 8 → Bytes s → mask ≡ 2 ^ (8 * k) - 1
     → bitAnd (leAt 8 s p) mask ≡ le (piece k s p)
-masked-bytes k s p mask l h e = ap (bitAnd (leAt 8 s p)) e ∙ and-mask (leAt 8 s p) (8 * k) ∙ first-bytes k 8 s p l h
+masked-bytes k s p mask l h e = ap (bitAnd (leAt 8 s p)) e ∙ and-mask (leAt 8 s p) (8 * k) ∙ low-bytes k 8 s p l h
 
 -- rows of bytes of one length that are one number are one row
 le-same : (xs ys : List ℕ) → length xs ≡ length ys → Bytes xs → Bytes ys → le xs ≡ le ys → xs ≡ ys
 le-same xs ys e f g h = sym (bytesLe-le (length ys) xs e f) ∙ ap (bytesLe (length ys)) h ∙ bytesLe-le (length ys) ys refl g
 
-pub piece-bytes : (k : ℕ) (s : List ℕ) (p : ℕ) → ((y : ℕ) → getD s y 0 < 256) → Bytes (piece k s p)
-piece-bytes k s p h = each-piece (λ b. b < 256) (omega arith) k s p (each-of (λ b. b < 256) s 0 (λ y l. h y))
-
-pub both-false : (b : Bool) → both false b ≡ false
-unfolding both
-both-false b = refl
-
 -- ---- whether an item fits
 module _ (x : Item) (q : Asked) (asks : AskedOf x q) (s ahead sets : List ℕ) (i : ℕ) (known : Ahead s i ahead)
-    (bytes : (y : ℕ) → getD s y 0 < 256) (own : Bytes (x .forward)) (some : 1 ≤ length (x .forward)) (short : length (x .forward) ≤ 8) where
+    (bytes : Bytes s) (own : Bytes (x .forward)) (some : 1 ≤ length (x .forward)) (short : length (x .forward) ≤ 8) where
   abbrev k : ℕ
   k = length (x .forward)
 
@@ -90,12 +63,12 @@ module _ (x : Item) (q : Asked) (asks : AskedOf x q) (s ahead sets : List ℕ) (
     unfolding commandOf
     part-at y l = let e : 5 + (j - k) + y ≡ 5 + (j - k + y) = omega arith in piece-get k s (5 + (j - k)) y l ∙ ap (λ (z : ℕ). getD s z 0) e
 
-    same-is : eqb (le part) (le (x .forward)) ≡ sameAt x s j k
+    same-is : eqb (le part) (le (x .forward)) ≡ sameAt x s j
     unfolding sameAt
     same-is =
         test-same (eqb (le part) (le (x .forward))) (all f k)
         (λ t.
-        let e = le-same part (x .forward) (length-piece k s (5 + (j - k))) (piece-bytes k s (5 + (j - k)) bytes) own (eqb→eq (le part) (le (x .forward)) t) in
+        let e = le-same part (x .forward) (length-piece k s (5 + (j - k))) (bytes-in k s (5 + (j - k)) bytes) own (eqb→eq (le part) (le (x .forward)) t) in
         all-of f k (λ y l. eq-T (ap (λ (v : List ℕ). getD v y 0) (sym e) ∙ part-at y l)))
         (λ t.
         eq-T (ap le
@@ -114,6 +87,6 @@ module _ (x : Item) (q : Asked) (asks : AskedOf x q) (s ahead sets : List ℕ) (
       go : Dec (j < k)
           → both (leb k j)
           (both (eqb (bitAnd (getD ahead (j - k) 0) (q .mask)) (le (x .forward))) (both (inside (getD sets j 0) (x .phi)) (inside (getD sets (j - k) 0) (x .psi))))
-          ≡ both (leb k j) (both (sameAt x s j k) (both (inside (getD sets j 0) (x .phi)) (inside (getD sets (j - k) 0) (x .psi))))
+          ≡ both (leb k j) (both (sameAt x s j) (both (inside (getD sets j 0) (x .phi)) (inside (getD sets (j - k) 0) (x .psi))))
       go (yes h) = rw (lt-leb k j h) (both-false _ ∙ sym (both-false _))
       go (no h) = rw (part-is j b (omega arith), same-is j b (omega arith))

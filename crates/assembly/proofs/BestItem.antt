@@ -2,23 +2,19 @@
 use mathlib.Core.Path.{_≡_, refl, sym, ap, _∙_, subst}
 use mathlib.Core.Bool.{Bool, true, false}
 use mathlib.Core.List.{List, foldl}
-use Prim.Native.Nat.{ℕ, zero, suc, _+_, _-_, _^_, _≤_, _<_}
+use Prim.Native.Nat.{ℕ, zero, suc, _+_, _-_, _≤_, _<_}
 use native.Mathlib.Nat.{add-zero, add-suc}
 use native.Mathlib.Decide.{decLt}
 use native.Mathlib.Numerals.{add-one}
 use native.Mathlib.Omega.{arith}
 use borrow.Author.Tests.{lt-ltb, le-ltb}
-use lib.Bits.{bitAnd}
-use lib.Count.{trailingZeros}
 use lib.Dec.{leb, ltb, leb→le}
 use lib.ListN.{length, getD}
 use Rattle.base.specs.Tests.{pick, both}
 use Rattle.base.specs.Bounded.{least}
 use Rattle.base.specs.Cardinality.{member, present}
-use Rattle.base.proofs.Tests.{true-T, T-true, both-l}
-use Rattle.base.proofs.Masks.{and-in, member-in, in-member}
+use Rattle.base.proofs.Tests.{true-T, both-l}
 use Rattle.base.proofs.Visiting.{gathered, gathered-is}
-use Rattle.base.proofs.Trailing.{trailing-zeros-lowest}
 use Rattle.base.proofs.Bounded.{least-le}
 use Rattle.reversal.specs.Reversal.{Item}
 use Rattle.reversal.specs.Computed.Least.{Links, via}
@@ -42,7 +38,7 @@ module _ (R : Links) (ns : List ℕ) (j : ℕ) where
   unfolding via pick
   via-none a f = rw f
 
-  pub choice-start : Chosen R ns j 0 (R .top) 0
+  choice-start : Chosen R ns j 0 (R .top) 0
   unfolding least
   choice-start =
       record {
@@ -68,16 +64,16 @@ module _ (R : Links) (ns : List ℕ) (j : ℕ) where
           lowest = g .lowest;
         }
 
-    pub choice-out : R .fit a j ≡ false → Chosen R ns j (a + 1) number item
+    choice-out : R .fit a j ≡ false → Chosen R ns j (a + 1) number item
     choice-out f = keeps (omega (arith, via-none a f, g .most))
 
     -- item a fits, costs r, and leads to the x from its lower point
     module _ (k r x : ℕ) (fit : R .fit a j ≡ true) (p : k ≡ R .k a) (q : r ≡ R .price a) (e : x ≡ getD ns (j - k) 0) where
-      pub choice-kept : number ≤ r + x → Chosen R ns j (a + 1) number item
+      choice-kept : number ≤ r + x → Chosen R ns j (a + 1) number item
       choice-kept l = keeps (omega (arith, via-fit a k r x fit p q e))
 
       -- a cheaper way
-      pub choice-taken : r + x < number → Chosen R ns j (a + 1) (r + x) a
+      choice-taken : r + x < number → Chosen R ns j (a + 1) (r + x) a
       unfolding least
       choice-taken l =
           record {
@@ -90,14 +86,6 @@ module _ (R : Links) (ns : List ℕ) (j : ℕ) where
           }
 
 -- ---- the choice among the items of a row
--- its lowest item
-pub lowest-member : (w : ℕ) → (w ≡ 0 → ⊥) → w < 2 ^ 64 → member w (trailingZeros 64 w) ≡ true
-lowest-member w f l = T-true _ (in-member w (trailingZeros 64 w) (trailing-zeros-lowest w f l .there))
-
--- the rest is in the row
-pub rest-member : (a b s : ℕ) → member (bitAnd a b) s ≡ true → member a s ≡ true
-rest-member a b s e = T-true _ (in-member a s (and-in a b s (member-in (bitAnd a b) s (true-T _ e)) .0))
-
 module _ (ks prices ns : List ℕ) (j : ℕ) where
   pub cheaper-yes : (number item a r x : ℕ) → r ≡ getD prices a 0 → x ≡ getD ns (j - getD ks a 0) 0 → r + x < number
       → record { number = r + x; item = a } ≡ cheaper ks prices ns j (record { number = number; item = item }) a

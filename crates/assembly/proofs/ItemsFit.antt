@@ -14,7 +14,7 @@ use Rattle.base.specs.Tests.{both}
 use Rattle.base.specs.Lists.{Each}
 use Rattle.base.specs.Bounded.{all}
 use Rattle.base.specs.Masks.{inside}
-use Rattle.base.proofs.Tests.{test-same, eq-T}
+use Rattle.base.proofs.Tests.{test-same, eq-T, both-false}
 use Rattle.base.proofs.Lists.{each-at}
 use Rattle.base.proofs.Bounded.{all-at, all-of}
 use Rattle.reversal.specs.Device.{Device}
@@ -29,7 +29,6 @@ use Rattle.reversal.proofs.Fitting.{same-eq, eq-same}
 use Rattle.runs.specs.Computed.{commandOf}
 use Rattle.assembly.specs.Items.{Items, ItemsOf, WeightsOf}
 use Rattle.assembly.specs.Links.{sameAt, fitsAt, linksOf}
-use Rattle.assembly.proofs.Asking.{both-false}
 use Rattle.assembly.proofs.LinksAgree.{Agree}
 
 module _ (d : Device) (r : Run) (items : List Item) (F : Items) (fields : ItemsOf items F) (s sets : List ℕ)
@@ -55,7 +54,7 @@ module _ (d : Device) (r : Run) (items : List Item) (F : Items) (fields : ItemsO
       part-at y l =
           getD-take (length (x .forward)) (drop low (r .commands)) y 0 l ∙ getD-drop low (r .commands) y 0 ∙ sym (commands (low + y) (omega arith))
 
-      same-is : sameAt x s j (length (x .forward)) ≡ sameList part (x .forward)
+      same-is : sameAt x s j ≡ sameList part (x .forward)
       unfolding sameAt
       same-is =
           test-same (all f (length (x .forward))) (sameList part (x .forward))
@@ -76,7 +75,7 @@ module _ (d : Device) (r : Run) (items : List Item) (F : Items) (fields : ItemsO
       where
         go : Dec (j < length (x .forward))
             → both (leb (length (x .forward)) j)
-            (both (sameAt x s j (length (x .forward))) (both (inside (getD sets j 0) (x .phi)) (inside (getD sets low 0) (x .psi))))
+            (both (sameAt x s j) (both (inside (getD sets j 0) (x .phi)) (inside (getD sets low 0) (x .psi))))
             ≡ both (leb (length (x .forward)) j)
             (both (sameList part (x .forward)) (both (inside (belief d r j) (x .phi)) (inside (belief d r low) (x .psi))))
         go (yes h) = rw (lt-leb (length (x .forward)) j h) (both-false _ ∙ sym (both-false _))

@@ -1,7 +1,6 @@
 -- The tests of what an item asks, the rows of the items that fit, and what is known of the items read, turn by turn. Assumes nothing.
 use mathlib.Core.Path.{_≡_, refl, sym, ap, _∙_}
 use mathlib.Core.Bool.{Bool, true, false}
-use mathlib.Core.Logic.{⊎-elim}
 use mathlib.Core.List.{List}
 use Prim.Native.Nat.{ℕ, _+_, _-_, _*_, _%_, _^_, _≤_, _<_}
 use native.Mathlib.Decide.{decLt}
@@ -13,11 +12,10 @@ use lib.Dec.{eqb, ltb}
 use lib.ListN.{length, getD, set, replicate, length-set, getD-replicate}
 use lib.Seq.{getD-set-same, getD-set-other}
 use Rattle.base.specs.Tests.{pick, both}
-use Rattle.base.specs.Sets.{In}
 use Rattle.base.specs.Cardinality.{member}
 use Rattle.base.specs.Masks.{added, inside}
-use Rattle.base.proofs.Tests.{T-true, test-same}
-use Rattle.base.proofs.Masks.{added-here, member-in, in-member, in-or-l, in-or-r, or-in, in-one, one-in}
+use Rattle.base.proofs.Added.{one-more-member, one-more-other}
+use Rattle.base.proofs.Masks.{added-here}
 use Rattle.reversal.specs.Computed.Least.{Links}
 use Rattle.octets.specs.Parts.{leAt}
 use Rattle.assembly.specs.declared.points.Asked.{Asked}
@@ -129,16 +127,10 @@ module _ (w a : ℕ) (l : a < 64) where
   added-is = rw (lt-ltb a 64 l)
 
   added-self : member (added w a) a ≡ true
-  added-self = rw added-is (T-true _ (in-member (bitOr w (2 ^ a)) a (in-or-r w (2 ^ a) a (in-one a))))
+  added-self = rw added-is (one-more-member w a)
 
   added-other : (b : ℕ) → (b ≡ a → ⊥) → member (added w a) b ≡ member w b
-  added-other b n =
-      rw added-is
-      (test-same (member (bitOr w (2 ^ a)) b) (member w b)
-      (λ t.
-      ⊎-elim (λ (h : In w b). in-member w b h) (λ (h : In (2 ^ a) b). absurd (n (one-in a b h)))
-      (or-in w (2 ^ a) b (member-in (bitOr w (2 ^ a)) b t)))
-      (λ t. in-member (bitOr w (2 ^ a)) b (in-or-l w (2 ^ a) b (member-in w b t))))
+  added-other b n = rw added-is (one-more-other w a b n)
 
   row-other : (t : Bool) (b : ℕ) → (b ≡ a → ⊥) → member (pick t (added w a) w) b ≡ member w b
   unfolding pick

@@ -1,5 +1,5 @@
--- Whether an item fits, and the choice at a point, of the items by number, the run's bytes and the belief states as the code has them. proofs/ItemsFit
--- ties them to reversal's links. Assumes nothing: these are definitions.
+-- Whether an item fits, and the choice at a point, of the items by number, the run's bytes and the belief states, command by command;
+-- specs/Rows has them as the code does. proofs/ItemsFit ties them to reversal's links. Assumes nothing: these are definitions.
 use mathlib.Core.Path.{_≡_}
 use mathlib.Core.Bool.{Bool}
 use mathlib.Core.List.{List, _++_}
@@ -16,14 +16,14 @@ use Rattle.reversal.specs.Computed.Least.{Links, via, leasts, leastAt, begins}
 use Rattle.runs.specs.Computed.{commandOf}
 use Rattle.assembly.specs.Items.{Items, kOf}
 
--- the first c forward commands of item x are the run's below point j
-unfoldable pub sameAt : Item → List ℕ → ℕ → ℕ → Bool
-sameAt x s j c = all (λ y. eqb (getD (x .forward) y 0) (commandOf s (j - length (x .forward) + y))) c
+-- the forward commands of item x are the run's below point j
+unfoldable pub sameAt : Item → List ℕ → ℕ → Bool
+sameAt x s j = all (λ y. eqb (getD (x .forward) y 0) (commandOf s (j - length (x .forward) + y))) (length (x .forward))
 
 unfoldable pub fitsAt : Item → List ℕ → List ℕ → ℕ → Bool
 fitsAt x s sets j =
     let k = length (x .forward) in
-    both (leb k j) (both (sameAt x s j k) (both (inside (getD sets j 0) (x .phi)) (inside (getD sets (j - k) 0) (x .psi))))
+    both (leb k j) (both (sameAt x s j) (both (inside (getD sets j 0) (x .phi)) (inside (getD sets (j - k) 0) (x .psi))))
 
 -- the links by the sums of the reverse commands' weights
 abbrev pub linksOf : Items → List ℕ → List ℕ → List ℕ → ℕ → Links
@@ -42,7 +42,7 @@ pub record Chosen (R : Links) (ns : List ℕ) (j count number item : ℕ) : Type
 abbrev pub Moving : Items → ℕ → Type 0
 Moving F count = (a : ℕ) → a < count → 1 ≤ kOf F a
 
--- none has more than 8
+-- no item has more than 8 forward commands
 abbrev pub Short : Items → ℕ → Type 0
 Short F count = (a : ℕ) → a < count → kOf F a ≤ 8
 

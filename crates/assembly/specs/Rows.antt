@@ -1,5 +1,5 @@
--- What is read once of each item, the items that fit from a point as the bits of a number, and the choice among them, as the code has them. proofs/Rows
--- and proofs/BestItem tie them to specs/Links. Assumes nothing: these are definitions.
+-- What is read once of each item, the items that fit from a point as the bits of a number, and the choice among them, as the code has them.
+-- proofs/Asking, Rows and BestItem tie them to specs/Links. Assumes nothing: these are definitions.
 use mathlib.Core.Path.{_≡_}
 use mathlib.Core.Bool.{Bool}
 use mathlib.Core.List.{List, foldl}

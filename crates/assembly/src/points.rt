@@ -94,6 +94,7 @@ fn price(book: &[u8], item: Parts, weights: &[u16]) -> u64
     sum
 }
 
+// With its bound, for the sum.
 fn wide(x: u32) -> u64
     ensures { λ r. ⌜ (r ≡ x) × (r < 4294967296) ⌝ }
 {

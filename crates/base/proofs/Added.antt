@@ -1,6 +1,6 @@
 -- A set with one state more, and the number of its states below a limit. Assumes nothing.
 use mathlib.Core.Path.{_≡_, refl, sym, ap, _∙_}
-use mathlib.Core.Bool.{Bool, true, false}
+use mathlib.Core.Bool.{true, false}
 use mathlib.Core.Logic.{⊎-elim}
 use Prim.Native.Nat.{ℕ, zero, suc, _+_, _-_, _*_, _/_, _%_, _^_, _≤_, _<_}
 use native.Mathlib.Nat.{eq-or-lt-of-le, le-of-suc-le-suc}
@@ -13,21 +13,14 @@ use lib.Pow.{field, mod-mod-pow}
 use Rattle.base.specs.Sets.{In}
 use Rattle.base.specs.Tests.{pick}
 use Rattle.base.specs.Cardinality.{member, present, cardinality}
-use Rattle.base.proofs.Tests.{T-true, true-T, test-same}
-use Rattle.base.proofs.Masks.{member-in, in-member, in-zero, in-one, one-in, in-or-l, in-or-r, or-in, some-state, shl-one}
+use Rattle.base.proofs.Tests.{T-true, test-same}
+use Rattle.base.proofs.Masks.{not-member, member-in, in-member, in-zero, in-one, one-in, in-or-l, in-or-r, or-in, some-state, shl-one}
 use Rattle.base.proofs.Present.{present-same, cardinality-suc, half-cardinality}
 
 -- ---- a set without states
 pub none-zero : (w : ℕ) → ((s : ℕ) → In w s → ⊥) → w ≡ 0
 none-zero zero f = refl
 none-zero (suc w) f = let (s, q) = some-state (suc w) (omega arith) in absurd (f s q)
-
-not-member : (w s : ℕ) → (In w s → ⊥) → member w s ≡ false
-not-member w s f = go (member w s) refl
-  where
-    go : (b : Bool) → member w s ≡ b → b ≡ false
-    go true e = absurd (f (member-in w s (true-T (member w s) e)))
-    go false e = refl
 
 -- ---- the number of states below a limit
 
@@ -65,10 +58,10 @@ module _ (w s : ℕ) where
   pub one-more-in : In (bitOr w (2 ^ s)) s
   one-more-in = in-or-r w (2 ^ s) s (in-one s)
 
-  one-more-member : member (bitOr w (2 ^ s)) s ≡ true
+  pub one-more-member : member (bitOr w (2 ^ s)) s ≡ true
   one-more-member = T-true _ (in-member (bitOr w (2 ^ s)) s one-more-in)
 
-  one-more-other : (i : ℕ) → (i ≡ s → ⊥) → member (bitOr w (2 ^ s)) i ≡ member w i
+  pub one-more-other : (i : ℕ) → (i ≡ s → ⊥) → member (bitOr w (2 ^ s)) i ≡ member w i
   one-more-other i f =
       test-same _ _
       (λ t. in-member w i (⊎-elim (λ (q : In w i). q) (λ (q : In (2 ^ s) i). absurd (f (one-in s i q))) (or-in w (2 ^ s) i (member-in _ i t))))

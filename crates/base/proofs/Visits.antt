@@ -9,6 +9,7 @@ use native.Mathlib.Omega.{arith}
 use native.Mathlib.Decide.{decLt}
 use borrow.Author.Tests.{not-true, not-false, eqb-true}
 use lib.Bits.{bitAnd, and-step, and-self, and-mask, and-le-r}
+use lib.Count.{trailingZeros}
 use lib.Dec.{eqb, eqb→eq}
 use lib.Pow.{field, mod-mod-pow, pow-mono}
 use Rattle.base.specs.Sets.{In}
@@ -16,20 +17,13 @@ use Rattle.base.specs.Tests.{pick}
 use Rattle.base.specs.Cardinality.{member, present}
 use Rattle.base.specs.Masks.{lowestIn, without}
 use Rattle.base.proofs.Tests.{T-true, true-T, eq-T, test-same}
-use Rattle.base.proofs.Masks.{half-member, member-in, in-member, in-zero, in-or-not, in-le, one-in, below-clear, shl-one}
+use Rattle.base.proofs.Masks.{not-member, and-in, half-member, member-in, in-member, in-zero, in-or-not, in-le, one-in, below-clear, shl-one}
 use Rattle.base.proofs.Present.{present-same}
-use Rattle.base.proofs.Trailing.{lowest-there, none-lower, lowest-is}
+use Rattle.base.proofs.Trailing.{lowest-there, none-lower, lowest-is, trailing-zeros-lowest}
 use Rattle.base.proofs.Visiting.{gathered, Visiting, visit-next, visit-end}
 
 none-in : (w s : ℕ) → w ≡ 0 → In w s → ⊥
 none-in w s z h = in-zero s (rw z at h)
-
-none-member : (w s : ℕ) → w ≡ 0 → member w s ≡ false
-none-member w s z = go (member w s) refl
-  where
-    go : (b : Bool) → member w s ≡ b → b ≡ false
-    go true e = absurd (none-in w s z (member-in w s (true-T (member w s) e)))
-    go false e = refl
 
 -- ---- w & (w - 1): w without its lowest state
 lowest-bit : (s w : ℕ) → In w s → ((t : ℕ) → t < s → member w t ≡ false) → bitAnd w (w - 1) ≡ w - 2 ^ s
@@ -49,7 +43,7 @@ lowest-bit (suc s) w h f =
 -- the empty set stays
 pub lowest-none : (w : ℕ) → w ≡ 0 → w ≡ without w (lowestIn w)
 unfolding without pick
-lowest-none w z = rw (none-member w (lowestIn w) z)
+lowest-none w z = rw (not-member w (lowestIn w) (none-in w (lowestIn w) z))
 
 pub lowest-off : (w : ℕ) → (w ≡ 0 → ⊥) → w < 2 ^ 64 → bitAnd w (w - 1) ≡ without w (lowestIn w)
 unfolding without pick
@@ -87,6 +81,13 @@ member-low n w s l =
     let e : j + 1 + s ≡ n = omega arith in
     let b : w % 2 ^ n / 2 ^ s % 2 ≡ w / 2 ^ s % 2 = rw (← e, field w (j + 1) s) (mod-mod-pow (w / 2 ^ s) j 1) in
     ap (λ (x : ℕ). eqb x 1) b
+
+-- the lowest state is in the set, and those of an intersection are in each
+pub lowest-member : (w : ℕ) → (w ≡ 0 → ⊥) → w < 2 ^ 64 → member w (trailingZeros 64 w) ≡ true
+lowest-member w f l = T-true _ (in-member w (trailingZeros 64 w) (trailing-zeros-lowest w f l .there))
+
+pub both-member : (a b s : ℕ) → member (bitAnd a b) s ≡ true → member a s ≡ true
+both-member a b s e = T-true _ (in-member a s (and-in a b s (member-in (bitAnd a b) s (true-T _ e)) .0))
 
 -- ---- the test that ends the loop
 pub some-left : {r : Bool} {w : ℕ} → r ≡ eqb w 0 → not r ≡ true → w ≡ 0 → ⊥

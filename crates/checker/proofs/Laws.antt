@@ -1,20 +1,20 @@
 -- Laws of reverse runs with their units, over plain variables. Assumes nothing.
 use mathlib.Core.Path.{_≡_, refl, sym, ap, ap₂, _∙_}
 use mathlib.Core.Bool.{Bool, true, false}
-use mathlib.Core.List.{List, [], _∷_}
+use mathlib.Core.List.{List, _∷_}
 use Prim.Native.Nat.{ℕ, zero, suc, _+_, _-_, _*_, _/_, _%_, _≤_, _<_}
 use native.Mathlib.Nat.{add-zero}
 use native.Mathlib.Numerals.{add-one}
 use native.Mathlib.Omega.{arith}
 use borrow.Author.Tests.{lt-ltb, eq-eqb, ne-eqb}
 use lib.Dec.{eqb}
-use lib.ListN.{length, getD, take, drop, length-drop}
+use lib.ListN.{length, getD, take, drop}
 use lib.Seq.{drop-cons}
 use Rattle.base.specs.Lists.{Each}
 use Rattle.base.specs.Tests.{pick, both}
-use Rattle.base.proofs.Parts.{each-drop}
 use Rattle.octets.specs.Le.{bytesLe}
-use Rattle.octets.specs.Parts.{le, leAt}
+use Rattle.octets.specs.Parts.{leAt}
+use Rattle.octets.proofs.Put.{piece-take, first-bytes}
 use Rattle.reversal.specs.Device.{Device}
 use Rattle.reversal.specs.Computed.Sets.{runsBack}
 use Rattle.reversal.specs.Computed.Units.{backUnits}
@@ -46,19 +46,9 @@ unfolding bytesLe
 next-byte zero w f = absurd (f refl)
 next-byte (suc k) w f = let e : suc k - 1 ≡ k = omega arith in rw e
 
-first-bytes : (k t : ℕ) (l : List ℕ) → k ≤ t → k ≤ length l → Each (λ b. b < 256) l → bytesLe k (le (take t l)) ≡ take k l
-unfolding bytesLe
-first-bytes zero t l h i q = refl
-first-bytes (suc k) zero l h i q = absurd (omega arith)
-first-bytes (suc k) (suc t) [] h i q = absurd (omega arith)
-first-bytes (suc k) (suc t) (b ∷ l) h i (q, r) =
-    let x : (b + 256 * le (take t l)) % 256 ≡ b = omega arith in
-    let y : (b + 256 * le (take t l)) / 256 ≡ le (take t l) = omega arith in
-    rw (x, y) (ap (λ (bs : List ℕ). b ∷ bs) (first-bytes k t l (omega arith) (omega arith) r))
-
 -- the first k bytes of the number at a place are those that stand there
 pub word-bytes : (s : List ℕ) (at k : ℕ) → k ≤ 8 → at + k ≤ length s → Each (λ b. b < 256) s → bytesLe k (leAt 8 s at) ≡ take k (drop at s)
-word-bytes s at k few inside q = first-bytes k 8 (drop at s) few (omega (arith, length-drop at s)) (each-drop (λ b. b < 256) at s q)
+word-bytes s at k few inside q = first-bytes k 8 s at few q ∙ piece-take k s at inside
 
 -- the next of them, and the number of the rest
 module _ (s : List ℕ) (at left w : ℕ) (more : left ≡ 0 → ⊥) (inside : at + left ≤ length s) (e : bytesLe left w ≡ take left (drop at s)) where

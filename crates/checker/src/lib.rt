@@ -121,7 +121,7 @@ fn runs_back(
 
 // The first item that is not accepted, from the book's bytes. For each start in psi, the ends in phi are run back together, and where there are
 // none the empty set, for its units alone; an item is effective if some start is used, that is, has an end. The search is left as soon as one
-// item fails. The commands each way are read as one number.
+// item fails. The commands each way are read as one number, of which each turn takes the lowest byte.
 fn first_wrong(book: &[u8], masks: &[u64], tabled: bool, n: u64, m: u64) -> JudgementMade
     requires { ⌜ (n ≤ 64) × (m ≤ 32) × WellFormed (now book) ⌝ }
     ensures { λ r. ⌜ Judged (now (book .entry)) (deviceIn tabled (now (book .entry)) (now (masks .entry)) n m) r ⌝ }

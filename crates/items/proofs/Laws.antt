@@ -12,7 +12,6 @@ use Rattle.reversal.specs.Reversal.{Item, AllowedItem}
 use Rattle.reversal.specs.Chains.{absent, item}
 use Rattle.octets.specs.Le.{bytesLe}
 use Rattle.octets.specs.Parts.{le, leAt, piece}
-use Rattle.octets.proofs.Le.{length-bytesLe}
 use Rattle.octets.proofs.LeAt.{le-past}
 use Rattle.octets.proofs.Put.{piece-at, piece-take}
 use Rattle.book.specs.Book.{Book, AllowedBook, deviceOf, frame, framed, itemRec, bytesOf}
@@ -125,15 +124,11 @@ module _ (s : List ℕ) (at k r : ℕ) (ek : k ≡ getD s (at + 4) 0) (er : r �
     -- what `parts_at` makes of the bytes
     parts : PartsOf s (record { k = k; r = r; forward = at + 6; reverse = at + 6 + k; masks = at + 6 + k + r; next = at + 6 + k + r + 16 }) x
     parts =
-        let two = bytesLe 8 (x .phi) ++ bytesLe 8 (x .psi) in
         record {
           k-is = hk;
           r-is = hr;
           forward-is = forward-is;
           reverse-is = reverse-is;
-          masks-are =
-              piece-at s (at + 6 + k + r) 16 two t (masks ∙ sym (append-assoc (bytesLe 8 (x .phi)) (bytesLe 8 (x .psi)) t))
-              (omega (arith, length-append (bytesLe 8 (x .phi)) (bytesLe 8 (x .psi)), length-bytesLe 8 (x .phi), length-bytesLe 8 (x .psi)));
           forward-in = omega (arith, inside s at x t (stands h), hk, hr);
           reverse-in = omega (arith, inside s at x t (stands h), hk, hr);
         }

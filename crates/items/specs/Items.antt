@@ -5,7 +5,6 @@ use Prim.Native.Nat.{ℕ, _+_, _≤_, _<_}
 use lib.ListN.{length, getD, take, drop}
 use Rattle.reversal.specs.Reversal.{Item}
 use Rattle.reversal.specs.Chains.{item}
-use Rattle.octets.specs.Le.{bytesLe}
 use Rattle.octets.specs.Parts.{leAt, piece}
 use Rattle.book.specs.Book.{Book, AllowedBook, bytesOf, framed, moveRec, itemRec}
 use Rattle.items.specs.declared.Place.{Place}
@@ -84,7 +83,6 @@ pub record PartsOf (s : List ℕ) (p : Parts) (x : Item) : Type 0 where
   pub r-is : p .r ≡ length (x .reverse)
   pub forward-is : piece (p .k) s (p .forward) ≡ x .forward
   pub reverse-is : piece (p .r) s (p .reverse) ≡ x .reverse
-  pub masks-are : piece 16 s (p .masks) ≡ bytesLe 8 (x .phi) ++ bytesLe 8 (x .psi)
   pub forward-in : p .forward + p .k ≤ length s
   pub reverse-in : p .reverse + p .r ≤ length s
 

@@ -114,7 +114,7 @@ pub fn first_move(book: &[u8]) -> usize
     10 + octets::u16_at(book, 6) as usize
 }
 
-// The kind of the record that begins at a place; its four first bytes are there.
+// The kind of the record that begins at a place, whose first four bytes are there: no test of the length.
 fn kind_at(book: &[u8], at: usize) -> u64
     requires { ⌜ at + 4 ≤ length (now book) ⌝ }
     ensures { λ r. ⌜ r ≡ leAt 2 (now (book .entry)) (at + 2) ⌝ }

@@ -2,7 +2,7 @@
 use mathlib.Core.Path.{_≡_, refl, sym, ap, _∙_, subst}
 use mathlib.Core.Bool.{Bool, true, false, not}
 use mathlib.Core.List.{List, [], _∷_, _++_, append-assoc, append-nil}
-use Prim.Native.Nat.{ℕ, zero, suc, _+_, _-_, _/_, _%_, _≤_, _<_}
+use Prim.Native.Nat.{ℕ, zero, suc, _+_, _-_, _*_, _/_, _%_, _^_, _≤_, _<_}
 use native.Mathlib.Nat.{add-zero, sub-zero}
 use native.Mathlib.Numerals.{add-one}
 use native.Mathlib.Decide.{decLt}
@@ -10,6 +10,7 @@ use native.Mathlib.Omega.{arith}
 use borrow.Author.Tests.{leb-true, leb-false, le-leb, lt-leb}
 use lib.Dec.{T, leb}
 use lib.ListN.{length, getD, set, take, drop, replicate, length-drop, length-append, drop-of-length-le, List·getD-eq-default}
+use lib.Pow.{mod-pow-add}
 use lib.Seq.{set-out, set-set, set-comm, sets, sets-eq, drop-cons, drop-drop, take-at, length-take-le}
 use Rattle.base.specs.Lists.{Each, Bytes}
 use Rattle.base.proofs.Lists.{each-at, each-of}
@@ -18,6 +19,7 @@ use mir.Val.{Fits}
 use Rattle.octets.specs.Le.{bytesLe}
 use Rattle.octets.specs.Parts.{le, leAt, piece}
 use Rattle.octets.proofs.Le.{bytesLe-le}
+use Rattle.octets.proofs.LeAt.{le-suc}
 
 -- past the end nothing is stored
 pub sets-past : (l : List ℕ) (i : ℕ) (xs : List ℕ) → length l ≤ i → sets l i xs ≡ l
@@ -196,6 +198,42 @@ each-piece P z (suc n) s p h = (go (decLt p (length s)), each-piece P z n s (suc
 -- the elements of a slice of bytes are bytes
 pub each-byte : (s : List ℕ) → ((i : ℕ) → Fits w8 (getD s i 0)) → Bytes s
 each-byte s h = each-of (λ x. x < 256) s 0 (λ i l. omega (arith, h i))
+
+pub byte-in : (s : List ℕ) → Bytes s → (p : ℕ) → getD s p 0 < 256
+unfolding piece
+byte-in s b p = each-piece (λ v. v < 256) (omega arith) 1 s p b .0
+
+pub bytes-in : (n : ℕ) (s : List ℕ) (p : ℕ) → Bytes s → Bytes (piece n s p)
+bytes-in n s p b = each-piece (λ v. v < 256) (omega arith) n s p b
+
+-- the number in n bytes: that of the row, of which the first k bytes are the first of the row
+pub le-piece : (n : ℕ) (s : List ℕ) (p : ℕ) → leAt n s p ≡ le (piece n s p)
+unfolding piece
+le-piece zero s p = refl
+le-piece (suc n) s p = rw (← le-piece n s (suc p)) (le-suc n s p)
+
+pub first-bytes : (k n : ℕ) (s : List ℕ) (p : ℕ) → k ≤ n → Bytes s → bytesLe k (leAt n s p) ≡ piece k s p
+unfolding piece bytesLe
+first-bytes zero n s p h b = refl
+first-bytes (suc k) zero s p h b = absurd (omega arith)
+first-bytes (suc k) (suc n) s p h b =
+    let l : getD s p 0 < 256 = byte-in s b p in
+    let x : (getD s p 0 + 256 * leAt n s (suc p)) % 256 ≡ getD s p 0 = omega arith in
+    let y : (getD s p 0 + 256 * leAt n s (suc p)) / 256 ≡ leAt n s (suc p) = omega arith in
+    rw (le-suc n s p, x, y, first-bytes k n s (suc p) (omega arith) b)
+
+-- below 2 ^ (8 * k) it is the number of the first k
+pub low-bytes : (k n : ℕ) (s : List ℕ) (p : ℕ) → k ≤ n → Bytes s → leAt n s p % 2 ^ (8 * k) ≡ le (piece k s p)
+unfolding piece
+low-bytes zero n s p h b = omega arith
+low-bytes (suc k) zero s p h b = absurd (omega arith)
+low-bytes (suc k) (suc n) s p h b =
+    let v = getD s p 0 + 256 * leAt n s (suc p) in
+    let l : getD s p 0 < 256 = byte-in s b p in
+    let e : 8 * suc k ≡ 8 * k + 8 = omega arith in
+    let x : v % 256 ≡ getD s p 0 = omega arith in
+    let y : v / 256 ≡ leAt n s (suc p) = omega arith in
+    rw (e, le-suc n s p, mod-pow-add v (8 * k) 8, x, y) (omega (arith, low-bytes k n s (suc p) (omega arith) b))
 
 -- the bytes of the number that some bytes are
 pub bytes-piece : (n : ℕ) (s : List ℕ) → Bytes s → (p : ℕ) → p + n ≤ length s → bytesLe n (leAt n s p) ≡ piece n s p

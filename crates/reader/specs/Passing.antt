@@ -10,16 +10,16 @@ use Rattle.book.specs.Book.{Move, index}
 use Rattle.book.specs.Limits.{moveFine, moveWith}
 
 -- the move whose record begins at `at`
-abbrev pub moveAt : List ℕ → ℕ → Move
-moveAt s at = moveWith (getD s (at + 4) 0) (getD s (at + 5) 0) (leAt 8 s (at + 6))
+abbrev pub moveIn : List ℕ → ℕ → Move
+moveIn s at = moveWith (getD s (at + 4) 0) (getD s (at + 5) 0) (leAt 8 s (at + 6))
 
 -- the contract of `low_after`: a move without a fault stands at `at`, and the lowest index that may follow it is `next`
 pub record GoodMove (s : List ℕ) (at n m low next : ℕ) : Type 0 where
   pub length-is : leAt 2 s at ≡ 10
   pub kind-is : leAt 2 s (at + 2) ≡ 2
-  pub fine : moveFine n m (moveAt s at) ≡ true
-  pub rising : low ≤ index m (moveAt s at)
-  pub next-is : next ≡ index m (moveAt s at) + 1
+  pub fine : moveFine n m (moveIn s at) ≡ true
+  pub rising : low ≤ index m (moveIn s at)
+  pub next-is : next ≡ index m (moveIn s at) + 1
 
 -- the state after a move
 abbrev pub moved : State → ℕ → State

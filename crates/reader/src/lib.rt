@@ -206,6 +206,7 @@ pub fn read(book: &[u8], table: &mut [u64], slots: &mut [u8], weights: &mut [u16
     let first = fill_table(book, table);
     fill_slots(book, first, slots);
     fill_weights(book, weights);
+    // Code and place as constants: they are not kept while the buffers are filled.
     Reading {
         code: 0,
         place: 0,

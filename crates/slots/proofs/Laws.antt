@@ -20,7 +20,7 @@ use Rattle.items.specs.declared.Parts.{Parts}
 use Rattle.items.specs.Items.{heldIn, ItemStands, PartsAt}
 use Rattle.items.proofs.Laws.{allowed, item-is}
 use Rattle.slots.specs.Filled.{headFrom, tailFrom, SlotFilled}
-use Rattle.slots.specs.Stored.{partsOf, Counted}
+use Rattle.slots.specs.Stored.{partsOf, HasCounts}
 
 -- ---- the fields of the item in slot a
 module _ (s : List ℕ) (a : ℕ) where
@@ -39,7 +39,7 @@ module _ (s : List ℕ) (a : ℕ) where
       e ∙ sym (piece-get k s (34 * a + 10) x (omega (arith, length-piece k s (34 * a + 10))))
 
 -- ---- its commands and masks, stored one after the other
-module _ (s : List ℕ) (b : Bytes s) (a k r : ℕ) (c : Counted s a k r) (d₀ d₁ d₂ d₃ d₄ : List ℕ) where
+module _ (s : List ℕ) (b : Bytes s) (a k r : ℕ) (c : HasCounts s a k r) (d₀ d₁ d₂ d₃ d₄ : List ℕ) where
   eight : (n p : ℕ) → n ≤ 8 → p + 8 ≤ length s → bytesLe 8 (leAt 8 s p) ≡ piece n s p ++ piece (8 - n) s (p + n)
   eight n p h l = bytes-piece 8 s b p l ∙ piece-split n (8 - n) 8 s p (p + n) (omega arith) refl
 

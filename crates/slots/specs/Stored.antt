@@ -12,7 +12,7 @@ unfoldable pub partsOf : Item → List ℕ
 partsOf x = x .forward ++ x .reverse ++ bytesLe 8 (x .phi) ++ bytesLe 8 (x .psi)
 
 -- slot a is there; its item has k forward and r reverse commands, at most 8 each
-pub record Counted (s : List ℕ) (a k r : ℕ) : Type 0 where
+pub record HasCounts (s : List ℕ) (a k r : ℕ) : Type 0 where
   pub room : 34 * a + 34 ≤ length s
   pub forward : k ≡ length (itemAt s a .forward)
   pub reverse : r ≡ length (itemAt s a .reverse)

@@ -10,7 +10,7 @@ ghost use Rattle.octets.specs.Parts.{piece};
 ghost use Rattle.book.specs.Lent.{padded};
 ghost use Rattle.book.specs.Slots.{itemAt, slotFine};
 ghost use Rattle.slots.specs.Filled.{headFrom, tailFrom, SlotFilled};
-ghost use Rattle.slots.specs.Stored.{partsOf, Counted};
+ghost use Rattle.slots.specs.Stored.{partsOf, HasCounts};
 
 // The bytes of a slot.
 pub const SLOT_LEN: usize = 34;
@@ -51,7 +51,7 @@ pub fn psi(slots: &[u8], a: u8) -> u64
 // Stores its commands and masks in d, one after the other, for who knows the numbers of its commands. Each part is stored as eight bytes; the next one
 // goes over those that were too many.
 pub fn put_parts(slots: &[u8], a: u8, k: usize, r: usize, d: &mut [u8])
-    ensures { λ _. ⌜ (Counted (now (slots .entry)) a k r → now (d .exit) ≡ sets (now (d .entry)) 0 (partsOf (itemAt (now (slots .entry)) a))) ⌝ }
+    ensures { λ _. ⌜ (HasCounts (now (slots .entry)) a k r → now (d .exit) ≡ sets (now (d .entry)) 0 (partsOf (itemAt (now (slots .entry)) a))) ⌝ }
 {
     if 8 < k {
         return;
@@ -88,7 +88,7 @@ fn largest(s: &[u8], p: usize) -> u8
     top
 }
 
-// Whether slot a is fine, as far as eight bytes at a time tell: every command byte is below m, and those past k and r are 0.
+// True only where slot a is fine; where it is false, `fine_by_bytes` decides.
 fn fine_by_words(slots: &[u8], a: u8, n: u64, m: u64) -> bool
     ensures { λ x. ⌜ (x ≡ true → slotFine n m (now (slots .entry)) a ≡ true) ⌝ }
 {
@@ -204,7 +204,7 @@ pub fn fill(book: &[u8], at: usize, slots: &mut [u8], a: u8) -> usize
     item.next
 }
 
-// The same for a slot by itself, of 34 bytes.
+// The same for a slot by itself, of 34 bytes: reading stores with it each slot that is there whole. It is called at one place, so that it is inlined.
 pub fn put(book: &[u8], at: usize, slot: &mut [u8]) -> usize
     ensures { λ r. ⌜ SlotFilled (now (book .entry)) at (now (slot .entry)) 0 (now (slot .exit)) r ⌝ }
 {

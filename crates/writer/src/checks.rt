@@ -39,7 +39,8 @@ fn union(k: usize, t: &[u64]) -> u64
     all
 }
 
-// The lowest of the first k entries with a bit at n or above; k where there is none, which their union tells.
+// The lowest of the first k entries with a bit at n or above; k where there is none: at once where n is 64, or where
+// their union has no such bit.
 pub(crate) fn lowest_entry(n: u64, k: usize, t: &[u64]) -> usize
     requires { ⌜ (k ≤ 2048) × (k ≤ length (now t)) ⌝ }
     ensures { λ r. ⌜ r ≡ lowestEntry n k (now (t .entry)) ⌝ }

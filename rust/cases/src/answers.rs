@@ -1,13 +1,6 @@
 //! What a program answers to an input, for comparing two programs.
 
-use std::env;
-
 use crate::Input;
-
-/// The number in an environment variable, or the usual one.
-pub fn number(name: &str, usual: u64) -> u64 {
-    env::var(name).map_or(usual, |value| value.parse().expect(name))
-}
 
 /// What a call answers and leaves behind.
 #[derive(Default)]

@@ -11,12 +11,12 @@ pub mod random;
 pub mod rng;
 pub mod vectors;
 
-pub use answers::{number, After};
+pub use answers::After;
 pub use books::{
     branching_book, branching_run, grown_book, largest_book, largest_run, q5_run, q_book,
     ridge_book, ridge_run,
 };
-pub use random::{input, Input};
+pub use random::{input, number_from_env, Input};
 pub use vectors::{
     assemble_cases, book_cases, forecast_cases, masks, page_cases, small_cases, write_cases,
 };

@@ -2,6 +2,8 @@
 //! serves every call; its parts are independent enough that each call sees
 //! all its codes often.
 
+use std::env;
+
 use crate::books::permutations;
 use crate::device::{
     all, book_records, item_record, move_record, record, ridge_device, run_bytes, slot_bytes,
@@ -46,6 +48,11 @@ pub struct Input {
     /// For the lookups: a state and a command.
     pub ridge: (u64, u64),
     pub portable: (u64, u64),
+}
+
+/// The number in an environment variable, or the usual one: the first seed, how many inputs.
+pub fn number_from_env(name: &str, usual: u64) -> u64 {
+    env::var(name).map_or(usual, |value| value.parse().expect(name))
 }
 
 /// The input of a seed, the same each time.

@@ -2,7 +2,8 @@
 //! benchmark to measure against. It answers as `rollback_plain` does and takes only its result types.
 //!
 //! Checking goes item by item and start by start, one command on one set at a time, and leaves no run
-//! of commands early but where it is stuck. Nothing is allocated.
+//! of commands early but where it is stuck. Nothing is allocated. It takes about 25 KB of stack for
+//! checking, which the library may not.
 
 #![forbid(unsafe_code)]
 

@@ -3,11 +3,11 @@
 //! `ROLLBACK_COUNT` the number of random inputs (30,000).
 
 use rollback_cases::{
-    answers, assemble_cases, book_cases, forecast_cases, input, number, page_cases, write_cases,
-    Input,
+    answers, assemble_cases, book_cases, forecast_cases, input, number_from_env, page_cases,
+    write_cases, Input,
 };
 use rollback_cases::{
-    branching_book, branching_run, largest_book, largest_run, ridge_book, ridge_run,
+    branching_book, branching_run, largest_book, largest_run, q5_run, q_book, ridge_book, ridge_run,
 };
 use rollback_fast as fast;
 use rollback_plain as plain;
@@ -98,6 +98,7 @@ fn measured_books() {
         (largest_book(), largest_run()),
         (branching_book(), branching_run()),
         (ridge_book(), ridge_run()),
+        (q_book(), q5_run()),
     ];
     for (number, (book, run)) in books.into_iter().enumerate() {
         let mut given = Input {
@@ -119,9 +120,13 @@ fn measured_books() {
             out: vec![90; 31_178],
             ..given
         };
-        same(&given, &format!("book {number}"));
+        same(&given, &format!("book {number}, written"));
         let out = &by_fast_program(&given)[6].out;
-        assert_eq!(out[..given.book.len()], given.book, "book {number}");
+        assert_eq!(
+            out[..given.book.len()],
+            given.book,
+            "book {number}, written"
+        );
     }
 }
 
@@ -138,8 +143,8 @@ fn lookups() {
 
 #[test]
 fn random_inputs() {
-    let first = number("ROLLBACK_SEED", 0);
-    let count = number("ROLLBACK_COUNT", 30_000);
+    let first = number_from_env("ROLLBACK_SEED", 0);
+    let count = number_from_env("ROLLBACK_COUNT", 30_000);
     for seed in first..first + count {
         same(&input(seed), &format!("seed {seed}"));
     }

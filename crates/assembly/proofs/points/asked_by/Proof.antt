@@ -1,9 +1,8 @@
 -- `asked_by` meets its contract. Assumes nothing.
 use mathlib.Core.Path.{sym, ap, _∙_}
 use Prim.Native.Nat.{ℕ, _-_, _*_, _/_, _^_}
-use native.Mathlib.Omega.{arith}
 use lib.Bits.{bitAnd}
-use Rattle.octets.proofs.Put.{length-piece}
+use Rattle.octets.proofs.Put.{length-piece, each-byte}
 use Rattle.assembly.proofs.Asking.{mask-of, masked-bytes}
 use borrow.Author.Needs.{needs}
 use Rattle.assembly.proofs.points.asked_by.Statement.{statement}
@@ -44,7 +43,7 @@ returns c =
       mask-is = mask ∙ ap (λ (x : ℕ). 2 ^ (8 * x) - 1) (sym k);
       commands-is =
           ap (λ (x : ℕ). bitAnd x (18446744073709551615 / 2 ^ (64 - 8 * p .k))) (c .before .before .u64-at .ensures)
-          ∙ masked-bytes (p .k) (a .book .now) (p .forward) _ (s .pre .1) (λ y. omega (arith, c .before .before .before .shared-slice-known .given y)) mask;
+          ∙ masked-bytes (p .k) (a .book .now) (p .forward) _ (s .pre .1) (each-byte (a .book .now) (c .before .before .before .shared-slice-known .given)) mask;
       phi-is = c .before .phi .ensures;
       psi-is = c .psi .ensures;
     }

@@ -12,10 +12,10 @@ use lib.ListN.{getD}
 use Rattle.base.specs.Cardinality.{member}
 use Rattle.base.specs.Masks.{lowestIn, without}
 use Rattle.base.proofs.Trailing.{trailing-lowest}
-use Rattle.base.proofs.Visits.{Left, lowest-off, lowest-low, left-less, left-next, left-none}
+use Rattle.base.proofs.Visits.{lowest-member, both-member, Left, lowest-off, lowest-low, left-less, left-next, left-none}
 use Rattle.assembly.specs.declared.points.Choice.{Choice}
 use Rattle.assembly.specs.Rows.{cheaper, cheapest}
-use Rattle.assembly.proofs.BestItem.{lowest-member, rest-member, cheaper-yes, cheaper-no}
+use Rattle.assembly.proofs.BestItem.{cheaper-yes, cheaper-no}
 use Rattle.assembly.proofs.points.best.Statement.{statement}
 use Rattle.assembly.proofs.points.best.Tie as tie
 use Rattle.assembly.proofs.points.best.Reads as reads
@@ -130,7 +130,7 @@ loop-again c =
           subst₂ (λ (y z : ℕ). Next k (record { number = y; item = z })) (sym (w .1)) (sym (w .2))
           (subst (Next k) (sym (cheaper-no (a .ks .now) (a .prices .now) (a .fewest .now) (a .j) (l .number) (l .first) (next k) _ _ r x (w .0 .left))) (again k)))
           (c .if1 .came),
-      λ s h. l .inv .1 s (rest-member (l .rest) (l .rest - 1) s h),
+      λ s h. l .inv .1 s (both-member (l .rest) (l .rest - 1) s h),
     )
 
 returns : tie.Need-returns Inv-loop μ-loop

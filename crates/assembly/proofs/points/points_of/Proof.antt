@@ -14,13 +14,13 @@ use Rattle.base.proofs.Tests.{true-T, T-true, both-l, both-r}
 use Rattle.reversal.specs.Reversal.{Item}
 use Rattle.reversal.specs.Weights.{sumOf}
 use Rattle.reversal.specs.Computed.Least.{Links}
-use Rattle.octets.proofs.Put.{length-piece}
+use Rattle.octets.proofs.Put.{length-piece, bytes-in, each-byte}
 use Rattle.items.specs.Items.{heldIn}
 use Rattle.assembly.specs.declared.points.Choice.{Choice}
 use Rattle.assembly.specs.Items.{recorded}
 use Rattle.assembly.specs.Links.{fitsAt, linksOf, Chosen, Numbered}
 use Rattle.assembly.specs.Rows.{Ahead, asksAt, cheapest}
-use Rattle.assembly.proofs.Asking.{piece-bytes, asks-fits}
+use Rattle.assembly.proofs.Asking.{asks-fits}
 use Rattle.assembly.proofs.Rows.{Listed, none-listed, one-listed}
 use Rattle.assembly.proofs.ItemsRead.{item-read, k-read}
 use Rattle.assembly.proofs.BestItem.{fits-room, cheapest-chosen}
@@ -101,8 +101,8 @@ fit-is c ahead h j b =
     let k = length-piece (p .k) (t .book .now) (p .forward) in
     let slices = head r .before .before .before in
     asks-fits (heldIn (t .book .now) p) (c .asked-by .result) (c .asked-by .ensures) (t .run .now) ahead (t .sets .now) (t .i) h
-    (λ y. omega (arith, slices .shared-slice-known4 .given y))
-    (piece-bytes (p .k) (t .book .now) (p .forward) (λ y. omega (arith, slices .before .before .before .shared-slice-known .given y)))
+    (each-byte (t .run .now) (slices .shared-slice-known4 .given))
+    (bytes-in (p .k) (t .book .now) (p .forward) (each-byte (t .book .now) (slices .before .before .before .shared-slice-known .given)))
     (omega (arith, k, some r)) (omega (arith, k, few r)) j b
     ∙ ap (λ (x : Item). fitsAt x (t .run .now) (t .sets .now) j) (item-is r)
 

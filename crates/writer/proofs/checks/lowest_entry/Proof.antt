@@ -1,5 +1,5 @@
--- `writer::checks::lowest_entry` meets its contract: there is no wrong one where n is 64, or where their union has no bit at n or above. The loop's invariant: seeking from `i` on gives the answer. The measure is the number of
--- entries that are left. Assumes nothing.
+-- `lowest_entry` meets its contract: there is no wrong one where n is 64, or where their union has no bit at n or above. The loop's invariant: seeking
+-- from `i` on gives the answer. The measure is the number of entries that are left. Assumes nothing.
 use mathlib.Core.Path.{_≡_, sym, ap, _∙_}
 use Prim.Native.Nat.{_-_, _≤_}
 use native.Mathlib.Nat.{sub-zero}

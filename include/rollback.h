@@ -66,7 +66,7 @@ extern "C" {
  * rounded up; no proof has them. c/check.sh measures again and fails above these numbers.
  */
 #define ROLLBACK_READ_STACK 1024
-#define ROLLBACK_CHECK_STACK 2560
+#define ROLLBACK_CHECK_STACK 1024
 #define ROLLBACK_FORECAST_STACK 512
 #define ROLLBACK_ASSEMBLE_STACK 4096
 #define ROLLBACK_ASSEMBLE_LEGS_STACK 4096

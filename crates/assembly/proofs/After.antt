@@ -5,7 +5,7 @@ use Prim.Native.Nat.{ℕ}
 use native.Mathlib.Omega.{arith}
 use Rattle.base.proofs.Lists.{same-written}
 use Rattle.reversal.specs.Answers.{Answer, no-history, no-chain, done}
-use Rattle.book.specs.Book.{Book}
+use Rattle.book.specs.Book.{Book, itemsFor}
 use Rattle.book.specs.Slots.{itemAt}
 use Rattle.book.proofs.Slots.{slots-read, slot-holds}
 use Rattle.book.proofs.Unique.{one-book}
@@ -37,7 +37,7 @@ module _ {E : Type 0} {form : LegForm E} {book run : List ℕ} {l : AllLent E} {
       absurd (z (ap (λ (y : Assembly). y .code) (w .result-is) ∙ ap (λ (y : Answer). y .code) q))
 
   -- with code 0 the slots hold the book's items
-  pub slots-hold : Assembles form book run l r l′ → r .code ≡ 0 → (b : Book) → AcceptedBook book b → ItemsOf (b .items) (itemAt (l′ .read .slots))
+  pub slots-hold : Assembles form book run l r l′ → r .code ≡ 0 → (b : Book) → AcceptedBook book b → ItemsOf (itemsFor b) (itemAt (l′ .read .slots))
   slots-hold (short a e k) z b ok = absurd (omega (arith, z, ap (λ (y : Assembly). y .code) e))
   slots-hold (unaccepted long x n e w) z b ok = absurd (n (sym (ap (λ (y : Assembly). y .code) e) ∙ z))
   slots-hold (faulty long b′ k n e w) z b ok = absurd (omega (arith, z, ap (λ (y : Assembly). y .code) e))

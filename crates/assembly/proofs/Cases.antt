@@ -14,7 +14,7 @@ use Rattle.reversal.specs.Runs.{Run, AllowedRun}
 use Rattle.reversal.specs.Answers.{Answer, Answers}
 use Rattle.reversal.specs.Twelve.{Q, Gives}
 use Rattle.reversal.proofs.Cases.{ok5, ok6, ok7, ok8, ok9, ok10, ok11, ok12, ok-dear, ok-even, twelve, weighted}
-use Rattle.book.specs.Book.{Book, deviceOf}
+use Rattle.book.specs.Book.{Book, deviceOf, itemsFor}
 use Rattle.book.specs.Limits.{allBelow}
 use Rattle.book.specs.Example.{bookQ, bytesQ, bookDear, bookEven, bytesEven}
 use Rattle.book.proofs.Fields.{all-on}
@@ -40,9 +40,9 @@ bytes-Even = all-on 256 bytesEven refl
 module _ {E : Type 0} (form : LegForm E) where
   -- ---- of a book of Q's device
   module _ {s : List ℕ} (h : Bytes s) (b : Book) (accepted : AcceptedBook s b) (device : deviceOf b ≡ Q) where
-    give : (u : Run) (a : Answer) → AllowedRun Q u → Answers Q (b .weights) (b .items) u a → BytesGive form s u a
+    give : (u : Run) (a : Answer) → AllowedRun Q u → Answers Q (b .weights) (itemsFor b) u a → BytesGive form s u a
     give u a ok g =
-        record { left = λ x long. left-at h x long given (subst (λ (d : Device). Answers d (b .weights) (b .items) u a) (sym device) g) }
+        record { left = λ x long. left-at h x long given (subst (λ (d : Device). Answers d (b .weights) (itemsFor b) u a) (sym device) g) }
       where
         given : Given s (runBytes u) b u
         given = record { accepted = accepted; allowed = subst (λ (d : Device). AllowedRun d u) (sym device) ok; run-bytes = refl }

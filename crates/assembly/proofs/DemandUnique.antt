@@ -10,7 +10,7 @@ use Rattle.reversal.specs.Runs.{Run, AllowedRun, last}
 use Rattle.reversal.specs.Chains.{planOf, legsOf, cost, Best}
 use Rattle.reversal.specs.Answers.{Allowed, Answer, Answers, no-history, no-chain, done, Numbers}
 use Rattle.reversal.proofs.Assembling.{answer-right, best-unique, numbers-unique}
-use Rattle.book.specs.Book.{Book, deviceOf}
+use Rattle.book.specs.Book.{Book, deviceOf, itemsFor}
 use Rattle.book.proofs.Device.{device-proper}
 use Rattle.book.proofs.Unique.{one-book}
 use Rattle.runs.proofs.Formed.{one-run}
@@ -27,7 +27,7 @@ same-given {b = b} {b′ = b′} {u = u} {u′ = u′} g g′ =
 
 -- the chain of a plan is the best one
 best : {E : Type 0} {form : LegForm E} {b : Book} {u : Run} {r : Assembly} {x : Room E} → (a : Planned form b u r x)
-    → Best (deviceOf b) (b .weights) u (b .items) (a .items)
+    → Best (deviceOf b) (b .weights) u (itemsFor b) (a .items)
 best a =
     record {
       chain = a .chain;
@@ -44,12 +44,12 @@ SamePlan form r q x y =
 planned-unique : {E : Type 0} (form : LegForm E) (b : Book) (u : Run) {r q : Assembly} {x y : Room E} → Planned form b u r x → Planned form b u q y
     → SamePlan form r q x y
 planned-unique form b u a c =
-    let same : a .items ≡ c .items = best-unique (deviceOf b) (b .weights) (b .items) u (a .items) (c .items) (best a) (best c) in (
-      a .commands-counted ∙ (ap (λ (xs : List ℕ). length (planOf (b .items) xs)) same ∙ sym (c .commands-counted)),
+    let same : a .items ≡ c .items = best-unique (deviceOf b) (b .weights) (itemsFor b) u (a .items) (c .items) (best a) (best c) in (
+      a .commands-counted ∙ (ap (λ (xs : List ℕ). length (planOf (itemsFor b) xs)) same ∙ sym (c .commands-counted)),
       a .legs-counted ∙ (ap length same ∙ sym (c .legs-counted)),
-      a .sum-is ∙ (ap (cost (b .weights) (b .items)) same ∙ sym (c .sum-is)),
-      a .plan-written ∙ (ap (planOf (b .items)) same ∙ sym (c .plan-written)),
-      a .legs-written ∙ (ap (λ (xs : List ℕ). form .held (legsOf (b .items) (last u) xs)) same ∙ sym (c .legs-written)),
+      a .sum-is ∙ (ap (cost (b .weights) (itemsFor b)) same ∙ sym (c .sum-is)),
+      a .plan-written ∙ (ap (planOf (itemsFor b)) same ∙ sym (c .plan-written)),
+      a .legs-written ∙ (ap (λ (xs : List ℕ). form .held (legsOf (itemsFor b) (last u) xs)) same ∙ sym (c .legs-written)),
     )
 
 module _ {E : Type 0} (form : LegForm E) {book run : List ℕ} {l : AllLent E} {b : Book} {u : Run} (ready : Ready form book run l b u) where
@@ -63,14 +63,14 @@ module _ {E : Type 0} (form : LegForm E) {book run : List ℕ} {l : AllLent E} {
         let (e, f) = same-given g (ready .given) in
         subst (λ (v : Run). Planned form b v r (l′ .room)) f (subst (λ (y : Book). Planned form y u′ r (l′ .room)) e a)
 
-    numbers-are : (r .code ≡ 0) ⊎ (r .code ≡ 11) → Numbers (deviceOf b) (b .weights) u (b .items) (r .fewest)
+    numbers-are : (r .code ≡ 0) ⊎ (r .code ≡ 11) → Numbers (deviceOf b) (b .weights) u (itemsFor b) (r .fewest)
     numbers-are z =
         let (b′, (u′, g, a)) = x .numbers z in
         let (e, f) = same-given g (ready .given) in
-        subst (λ (v : Run). Numbers (deviceOf b) (b .weights) v (b .items) (r .fewest)) f
+        subst (λ (v : Run). Numbers (deviceOf b) (b .weights) v (itemsFor b) (r .fewest)) f
         (subst (λ (y : Book). Numbers (deviceOf y) (y .weights) u′ (y .items) (r .fewest)) e a)
 
-  ok : Allowed (deviceOf b) (b .weights) (b .items) u
+  ok : Allowed (deviceOf b) (b .weights) (itemsFor b) u
   ok =
       record {
         device = device-proper b (ready .given .accepted .allowed);
@@ -81,18 +81,18 @@ module _ {E : Type 0} (form : LegForm E) {book run : List ℕ} {l : AllLent E} {
 
   pub demand-unique : {r q : Assembly} {l′ l″ : AllLent E} → Is r l′ → Is q l″
       → (r .code ≡ q .code) × (r .fewest ≡ q .fewest) × (r .code ≡ 0 → SamePlan form r q (l′ .room) (l″ .room))
-  demand-unique {r} {q} {l′} {l″} x y = go (answer-right (deviceOf b) (b .weights) (b .items) u ok)
+  demand-unique {r} {q} {l′} {l″} x y = go (answer-right (deviceOf b) (b .weights) (itemsFor b) u ok)
     where
       both : (k : ℕ) → r .code ≡ k → q .code ≡ k → (k ≡ 0) ⊎ (k ≡ 11)
           → (r .code ≡ q .code) × (r .fewest ≡ q .fewest) × (r .code ≡ 0 → SamePlan form r q (l′ .room) (l″ .room))
       both k e f z = (
         e ∙ sym f,
-        numbers-unique (deviceOf b) (b .weights) (b .items) u (r .fewest) (q .fewest) (numbers-are x (subst (λ (c : ℕ). (c ≡ 0) ⊎ (c ≡ 11)) (sym e) z))
+        numbers-unique (deviceOf b) (b .weights) (itemsFor b) u (r .fewest) (q .fewest) (numbers-are x (subst (λ (c : ℕ). (c ≡ 0) ⊎ (c ≡ 11)) (sym e) z))
             (numbers-are y (subst (λ (c : ℕ). (c ≡ 0) ⊎ (c ≡ 11)) (sym f) z)),
         λ w. planned-unique form b u (planned x w) (planned y (f ∙ (sym e ∙ w))),
       )
 
-      go : {a : Answer} → Answers (deviceOf b) (b .weights) (b .items) u a
+      go : {a : Answer} → Answers (deviceOf b) (b .weights) (itemsFor b) u a
           → (r .code ≡ q .code) × (r .fewest ≡ q .fewest) × (r .code ≡ 0 → SamePlan form r q (l′ .room) (l″ .room))
       go (no-history n e) = absurd (n (ready .path) (ready .history))
       go (no-chain h v n ns m e) = both 11 (x .no-chain .1 (b, (u, ready, n))) (y .no-chain .1 (b, (u, ready, n))) (inr refl)

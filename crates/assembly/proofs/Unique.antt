@@ -9,7 +9,7 @@ use Rattle.base.proofs.Sizes.{long-after}
 use Rattle.reversal.specs.Runs.{Run, AllowedRun}
 use Rattle.reversal.specs.Answers.{Answer, Answers}
 use Rattle.reversal.proofs.Assembling.{answers-unique}
-use Rattle.book.specs.Book.{Book, deviceOf}
+use Rattle.book.specs.Book.{Book, deviceOf, itemsFor}
 use Rattle.book.specs.Lent.{Lent, sizes}
 use Rattle.book.proofs.Unique.{one-book}
 use Rattle.checker.specs.declared.Checking.{Checking}
@@ -68,14 +68,14 @@ module _ {E : Type 0} {form : LegForm E} {book run : List ℕ} {l : AllLent E} (
       let (x, i) = same-filled (k .filled) (k′ .filled) in
       let al′ : AllowedRun (deviceOf b′) u = subst (λ (y : Book). AllowedRun (deviceOf y) u) x al in
       let e : u ≡ u₂ = one-run (deviceOf b′) (k′ .filled .allowed .device .n-high) al′ al₂ (ub ∙ sym ub₂) in
-      let right′ : Answers (deviceOf b′) (b′ .weights) (b′ .items) u₂ an
-      = subst (λ (v : Run). Answers (deviceOf b′) (b′ .weights) (b′ .items) v an) e (subst (λ (y : Book). Answers (deviceOf y) (y .weights) (y .items) u an) x right) in
-      let same : an ≡ an₂ = answers-unique (deviceOf b′) (b′ .weights) (b′ .items) u₂ an an₂ right′ right₂ in
+      let right′ : Answers (deviceOf b′) (b′ .weights) (itemsFor b′) u₂ an
+      = subst (λ (v : Run). Answers (deviceOf b′) (b′ .weights) (itemsFor b′) v an) e (subst (λ (y : Book). Answers (deviceOf y) (y .weights) (itemsFor y) u an) x right) in
+      let same : an ≡ an₂ = answers-unique (deviceOf b′) (b′ .weights) (itemsFor b′) u₂ an an₂ right′ right₂ in
       let (c, f) = same-left (subst (λ (a : Answer). Left form a (l .room) r (l′ .room)) same left) left₂ in (c, both i f)
 
   -- where the buffers are long enough, for a book and a run that are known, the answer is theirs
   pub given-answer : Assembles form book run l r l′ → LongEnough (allSizes form l) → {b : Book} {u : Run} → Given book run b u
-      → (a : Answer) × Answers (deviceOf b) (b .weights) (b .items) u a × Left form a (l .room) r (l′ .room)
+      → (a : Answer) × Answers (deviceOf b) (b .weights) (itemsFor b) u a × Left form a (l .room) r (l′ .room)
   given-answer (short a e k) long g = absurd (a long)
   given-answer (unaccepted long′ x n e w) long g =
       let read-long = long-after (roomSizes form (l .room)) (sizes (l .read)) long in
@@ -88,13 +88,13 @@ module _ {E : Type 0} {form : LegForm E} {book run : List ℕ} {l : AllLent E} (
       let al′ : AllowedRun (deviceOf b) u′ = subst (λ (y : Book). AllowedRun (deviceOf y) u′) x al in
       let e : u′ ≡ u = one-run (deviceOf b) (g .accepted .allowed .device .n-high) al′ (g .allowed) (ub ∙ sym (g .run-bytes)) in (
         an,
-        subst (λ (v : Run). Answers (deviceOf b) (b .weights) (b .items) v an) e (subst (λ (y : Book). Answers (deviceOf y) (y .weights) (y .items) u′ an) x right),
+        subst (λ (v : Run). Answers (deviceOf b) (b .weights) (itemsFor b) v an) e (subst (λ (y : Book). Answers (deviceOf y) (y .weights) (y .items) u′ an) x right),
         left,
       )
 
   -- at an answer known to be right
   pub left-at : Assembles form book run l r l′ → LongEnough (allSizes form l) → {b : Book} {u : Run} → Given book run b u
-      → {a : Answer} → Answers (deviceOf b) (b .weights) (b .items) u a → Left form a (l .room) r (l′ .room)
+      → {a : Answer} → Answers (deviceOf b) (b .weights) (itemsFor b) u a → Left form a (l .room) r (l′ .room)
   left-at x long {b} {u} g {a} right =
       let (a′, right′, left) = given-answer x long g in
-      subst (λ (y : Answer). Left form y (l .room) r (l′ .room)) (answers-unique (deviceOf b) (b .weights) (b .items) u a′ a right′ right) left
+      subst (λ (y : Answer). Left form y (l .room) r (l′ .room)) (answers-unique (deviceOf b) (b .weights) (itemsFor b) u a′ a right′ right) left

@@ -15,7 +15,7 @@ use Rattle.reversal.specs.Reversal.{Item, AllowedItem}
 use Rattle.reversal.specs.Runs.{AllowedRun, last}
 use Rattle.reversal.specs.Chains.{absent, none}
 use Rattle.reversal.specs.Answers.{Allowed, Answer}
-use Rattle.book.specs.Book.{Book, deviceOf}
+use Rattle.book.specs.Book.{Book, deviceOf, itemsFor}
 use Rattle.book.specs.Lent.{Lent}
 use Rattle.book.proofs.Device.{device-proper}
 use Rattle.items.specs.Items.{Placed}
@@ -95,7 +95,7 @@ module _ {book run : List ℕ} {l : AllLent ℕ} {f : Checking} {read : Lent} (h
     m-is : f .m ≡ b .m
     m-is = ap (λ (x : Checking). x .m) (g .result)
 
-    items-is : f .items ≡ length (b .items)
+    items-is : f .items ≡ length (itemsFor b)
     items-is = ap (λ (x : Checking). x .items) (g .result)
 
     -- what the passes ask
@@ -106,14 +106,14 @@ module _ {book run : List ℕ} {l : AllLent ℕ} {f : Checking} {read : Lent} (h
 
     -- the items are the book's
     module _ {places : List ℕ} (placed : Placed book places) where
-      fields : ItemsOf (b .items) (recorded book places)
+      fields : ItemsOf (itemsFor b) (recorded book places)
       fields = placed-items placed b (g .accepted .allowed) (g .accepted .bytes)
 
       forward-few : (a : ℕ) → a < f .items → (1 ≤ kOf (recorded book places) a) × (kOf (recorded book places) a ≤ 8)
       forward-few a l =
           let known = subst (λ (n : ℕ). a < n) items-is l in
           let k = ap (λ (x : Item). length (x .forward)) (fields a known) in
-          let x = each-at (AllowedItem (deviceOf b)) (b .items) (g .accepted .allowed .each-item) a absent known in
+          let x = each-at (AllowedItem (deviceOf b)) (itemsFor b) (g .accepted .allowed .each-item) a absent known in
           (omega (arith, k, x .some), omega (arith, k, x .most))
 
       pub movable : Moving (recorded book places) (f .items)
@@ -152,7 +152,7 @@ module _ {book run : List ℕ} {d : Device} {W : List ℕ} {l : AllLent ℕ} {f 
   run-ok : AllowedRun (deviceOf B) (runOf run)
   run-ok = run-value (deviceOf B) run (h .run-bytes) fine .0
 
-  allowed : Allowed (deviceOf B) (B .weights) (B .items) (runOf run)
+  allowed : Allowed (deviceOf B) (B .weights) (itemsFor B) (runOf run)
   allowed =
       let ok = g h z .accepted .allowed in
       record { device = device-proper B ok; weights = ok .weighed; each = ok .each-item; run = run-ok }
@@ -180,7 +180,7 @@ module _ {book run : List ℕ} {d : Device} {W : List ℕ} {l : AllLent ℕ} {f 
 
     pub no-state : getD beliefs 0 0 ≡ 0 → {r : Assembly} → r ≡ refusal 10 0 → AssembleAs inBytes book run l r (beside (l .room) read)
     no-state s p =
-        answered (reached.no-state (deviceOf B) (B .weights) (B .items) run allowed beliefs held (l .room) s p)
+        answered (reached.no-state (deviceOf B) (B .weights) (itemsFor B) run allowed beliefs held (l .room) s p)
 
 -- ---- some state is possible and the numbers are known
 pub record NumbersKnown (beliefs : List ℕ) (i : ℕ) (places fewest firsts : List ℕ) (book run : List ℕ) (d : Device) (W : List ℕ) (l : AllLent ℕ)

@@ -9,7 +9,7 @@ use Rattle.base.specs.Sizes.{LongEnough}
 use Rattle.reversal.specs.Runs.{Run, AllowedRun}
 use Rattle.reversal.specs.Chains.{none}
 use Rattle.reversal.specs.Answers.{Answer, Answers}
-use Rattle.book.specs.Book.{Book, deviceOf}
+use Rattle.book.specs.Book.{Book, deviceOf, itemsFor}
 use Rattle.checker.specs.declared.Checking.{Checking}
 use Rattle.checker.specs.Checks.{Checked, Checks}
 use Rattle.runs.specs.RunBytes.{runBytes, RunFormed}
@@ -43,5 +43,5 @@ pub data Assembles {E : Type 0} (form : LegForm E) (book run : List ℕ) (l : Al
       → result ≡ refusal 9 0 → l′ .room ≡ l .room → Assembles form book run l result l′
   -- "10", "11" and "0": the answer that 01 fixes for the book's device, weights and items and the run
   answered : LongEnough (allSizes form l) → (b : Book) → Checked book (l .read) b (l′ .read)
-      → (u : Run) → AllowedRun (deviceOf b) u → runBytes u ≡ run → (a : Answer) → Answers (deviceOf b) (b .weights) (b .items) u a
+      → (u : Run) → AllowedRun (deviceOf b) u → runBytes u ≡ run → (a : Answer) → Answers (deviceOf b) (b .weights) (itemsFor b) u a
       → Left form a (l .room) result (l′ .room) → Assembles form book run l result l′

@@ -14,7 +14,7 @@ use Rattle.base.specs.Shorter.{anyShort}
 use Rattle.reversal.specs.Device.{Device}
 use Rattle.reversal.specs.Answers.{Answer}
 use Rattle.reversal.specs.Computed.Assembly.{answer}
-use Rattle.book.specs.Book.{Book, deviceOf}
+use Rattle.book.specs.Book.{Book, deviceOf, itemsFor}
 use Rattle.book.specs.Lent.{Lent, sizes}
 use Rattle.reader.specs.Contract.{lentBy}
 use Rattle.checker.specs.declared.Checking.{Checking}
@@ -29,7 +29,7 @@ use Rattle.assembly.specs.Small.{smallSizes, beside}
 
 -- the answer for an accepted book, of the run's bytes
 abbrev pub answerOf : Book → List ℕ → Answer
-answerOf b run = answer (deviceOf b) (b .weights) (b .items) (runOf run)
+answerOf b run = answer (deviceOf b) (b .weights) (itemsFor b) (runOf run)
 
 -- of an accepted book: code 9 for a faulty run, else `fine`
 abbrev pub plannedBy : {A : Type 0} → List ℕ → (ℕ → ℕ → A) → (Answer → A) → Book → A

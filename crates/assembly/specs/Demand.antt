@@ -9,7 +9,7 @@ use Rattle.base.specs.Sizes.{LongEnough}
 use Rattle.reversal.specs.Runs.{Run, AllowedRun, last, History}
 use Rattle.reversal.specs.Chains.{Chain, planOf, legsOf, cost, LexLe, Undoes}
 use Rattle.reversal.specs.Answers.{Numbers}
-use Rattle.book.specs.Book.{Book, deviceOf}
+use Rattle.book.specs.Book.{Book, deviceOf, itemsFor}
 use Rattle.checker.specs.Checks.{AcceptedBook}
 use Rattle.runs.specs.RunBytes.{runBytes}
 use Rattle.assembly.specs.declared.Assembly.{Assembly}
@@ -34,15 +34,15 @@ pub record Ready {E : Type 0} (form : LegForm E) (book run : List ℕ) (l : AllL
 -- least-cost claim is now about that sum; equal sums go to the lower item list"
 pub record Planned {E : Type 0} (form : LegForm E) (b : Book) (u : Run) (r : Assembly) (room : Room E) : Type 0 where
   pub items : List ℕ
-  pub chain : Chain (deviceOf b) u (b .items) (last u) items
-  pub plan-written : take (r .commands) (room .plan) ≡ planOf (b .items) items
-  pub legs-written : take (form .width * r .legs) (room .legs) ≡ form .held (legsOf (b .items) (last u) items)
-  pub commands-counted : r .commands ≡ length (planOf (b .items) items)
+  pub chain : Chain (deviceOf b) u (itemsFor b) (last u) items
+  pub plan-written : take (r .commands) (room .plan) ≡ planOf (itemsFor b) items
+  pub legs-written : take (form .width * r .legs) (room .legs) ≡ form .held (legsOf (itemsFor b) (last u) items)
+  pub commands-counted : r .commands ≡ length (planOf (itemsFor b) items)
   pub legs-counted : r .legs ≡ length items
   pub undoes : Undoes (deviceOf b) u (take (r .commands) (room .plan))
-  pub sum-is : r .sum ≡ cost (b .weights) (b .items) items
-  pub least-sum : (ys : List ℕ) → Chain (deviceOf b) u (b .items) (last u) ys → r .sum ≤ cost (b .weights) (b .items) ys
-  pub lowest : (ys : List ℕ) → Chain (deviceOf b) u (b .items) (last u) ys → cost (b .weights) (b .items) ys ≡ r .sum → LexLe items ys
+  pub sum-is : r .sum ≡ cost (b .weights) (itemsFor b) items
+  pub least-sum : (ys : List ℕ) → Chain (deviceOf b) u (itemsFor b) (last u) ys → r .sum ≤ cost (b .weights) (itemsFor b) ys
+  pub lowest : (ys : List ℕ) → Chain (deviceOf b) u (itemsFor b) (last u) ys → cost (b .weights) (itemsFor b) ys ≡ r .sum → LexLe items ys
 
 pub record Demand {E : Type 0} (form : LegForm E) (book run : List ℕ) (l : AllLent E) (r : Assembly) (l′ : AllLent E) : Type 0 where
   -- "Where assembling gives a plan, the book is accepted, .."
@@ -50,8 +50,8 @@ pub record Demand {E : Type 0} (form : LegForm E) (book run : List ℕ) (l : All
   -- "'no chain' exactly when no refusal that goes before it is due, some history fits the run and no chain fits"
   pub no-chain :
       (r .code ≡ 11) ↔ ((b : Book) × ((u : Run) × Ready form book run l b u
-      × ((ys : List ℕ) → Chain (deviceOf b) u (b .items) (last u) ys → ⊥)))
+      × ((ys : List ℕ) → Chain (deviceOf b) u (itemsFor b) (last u) ys → ⊥)))
   -- "where the first two hold and a chain does fit, it gives a plan"
-  pub gives-plan : (b : Book) (u : Run) → Ready form book run l b u → (ys : List ℕ) → Chain (deviceOf b) u (b .items) (last u) ys → r .code ≡ 0
+  pub gives-plan : (b : Book) (u : Run) → Ready form book run l b u → (ys : List ℕ) → Chain (deviceOf b) u (itemsFor b) (last u) ys → r .code ≡ 0
   -- on 0 and 11 the least sum for each of the 33 points
-  pub numbers : ((r .code ≡ 0) ⊎ (r .code ≡ 11)) → (b : Book) × ((u : Run) × Given book run b u × Numbers (deviceOf b) (b .weights) u (b .items) (r .fewest))
+  pub numbers : ((r .code ≡ 0) ⊎ (r .code ≡ 11)) → (b : Book) × ((u : Run) × Given book run b u × Numbers (deviceOf b) (b .weights) u (itemsFor b) (r .fewest))

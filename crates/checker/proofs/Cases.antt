@@ -21,7 +21,7 @@ use Rattle.reversal.specs.Computed.Sets.{after, able, reach, runsBack, ends, st
 use Rattle.reversal.specs.Computed.Units.{backUnits, startMade, startsMade, itemMade, itemsMade}
 use Rattle.reversal.specs.Weighted.{dear, itemsDear, itemsEven}
 use Rattle.reversal.proofs.Cases.{twelve, weighted}
-use Rattle.book.specs.Book.{Book, outcomeOf, frame, twoBytes, allOne, weightsRecs}
+use Rattle.book.specs.Book.{Book, outcomeOf, frame, twoBytes, allOne, weightsRecs, itemsOf}
 use Rattle.book.specs.Parse.{parse, cutAfter, scan, kindOf, step, moveOf, itemOf, weightsOf, weightsIn, movesIn, itemsIn}
 use Rattle.book.specs.Limits.{deviceFine, weightFine, weightsFine, moveFine, countsFine, allBelow, fieldsFine}
 use Rattle.book.specs.Parse.Parsed.{Ok}
@@ -55,7 +55,7 @@ accepted-Q =
     record { allowed = allowed-bookQ; bytes = bytes-bookQ; accepted = subst (λ (d : Device). Each (Accepted d) itemsQ) (sym device-bookQ) (twelve .q1) }
 
 -- bytes that parse as a book whose item i is the first that the test turns down
-refused-at : (s : List ℕ) (b : Book) → allBelow 256 s ≡ true → parse s ≡ Ok b → wrongItem b < length (b .items)
+refused-at : (s : List ℕ) (b : Book) → allBelow 256 s ≡ true → parse s ≡ Ok b → wrongItem b < length (itemsOf b)
     → Judges s (withUnits (refusal (codeOf (reasonIn b)) (placeOf b (wrongItem b))) (unitsOf b))
 refused-at s b h e l =
     let bytes = all-on 256 s h in
@@ -68,7 +68,7 @@ refused-at s b h e l =
     }
 
 -- and the weights are the book's
-filled-at : (s : List ℕ) (b : Book) → allBelow 256 s ≡ true → parse s ≡ Ok b → wrongItem b < length (b .items)
+filled-at : (s : List ℕ) (b : Book) → allBelow 256 s ≡ true → parse s ≡ Ok b → wrongItem b < length (itemsOf b)
     → {l : Lent} {r : Checking} {l′ : Lent} → Checks s l r l′ → LongEnough (sizes l) → WeightsRead b (l .weights) (l′ .weights)
 filled-at s b h e l x long =
     let bytes = all-on 256 s h in
@@ -77,13 +77,13 @@ filled-at s b h e l x long =
 
 -- Q's book with the item of Q2 in place of item 1, whose record stands from 129 to 153, and with others behind its items
 bookQ2 : Book
-bookQ2 = record { n = 3; m = 3; weights = bookQ .weights; moves = bookQ .moves; items = take 1 (bookQ .items) ++ (itemQ2 ∷ drop 2 (bookQ .items)) }
+bookQ2 = record { n = 3; m = 3; weights = bookQ .weights; moves = bookQ .moves; items = take 1 (itemsOf bookQ) ++ (itemQ2 ∷ drop 2 (itemsOf bookQ)) }
 
 dearer : Book
 dearer = record { n = 3; m = 3; weights = dear; moves = bookQ .moves; items = itemsDear ++ (itemQ3 ∷ []) }
 
 longer : List Item → Book
-longer xs = record { n = 3; m = 3; weights = bookQ .weights; moves = bookQ .moves; items = bookQ .items ++ xs }
+longer xs = record { n = 3; m = 3; weights = bookQ .weights; moves = bookQ .moves; items = itemsOf bookQ ++ xs }
 
 pub q-checked : QChecked
 unfolding pick both imp less atMost same differ all any union seek member clearFrom bytesLe frame outcomeOf after able reach runsBack ends startOk reverses startUsed effective accepts present backUnits startMade startsMade itemMade itemsMade wrongItem reasonFor parse cutAfter scan kindOf step deviceFine moveFine countsFine allBelow fieldsFine moveOf itemOf weightsIn movesIn itemsIn weightsOf weightFine weightsFine twoBytes allOne weightsRecs bookQ2 longer dearer

@@ -26,7 +26,7 @@ use Rattle.reversal.specs.Computed.Sets.{reverses, effective, accepts}
 use Rattle.reversal.specs.Computed.Units.{itemMade}
 use Rattle.reversal.proofs.Reversals.{reverses↔, effective↔, accepts↔}
 use Rattle.reversal.proofs.Units.{item-all, items-all, items-first, units-to-failure, sum-next}
-use Rattle.book.specs.Book.{Book, deviceOf, AllowedBook, bytesOf}
+use Rattle.book.specs.Book.{Book, deviceOf, AllowedBook, bytesOf, itemsOf}
 use Rattle.book.specs.Lent.{Lent, sizes}
 use Rattle.book.specs.Parse.{parse}
 use Rattle.book.specs.Parse.Parsed.{Ok, Refused}
@@ -49,11 +49,11 @@ use Rattle.checker.proofs.Judging.{one-wrong, all-accepted as none-turn
 
 -- ---- the judgement of a book, by its test
 module _ (b : Book) where
-  pub by-wrong : wrongItem b < length (b .items) → {A : Type 0} (refuse : ℕ → ℕ → A) (found : A)
+  pub by-wrong : wrongItem b < length (itemsOf b) → {A : Type 0} (refuse : ℕ → ℕ → A) (found : A)
       → onJudgement (judgementOf b) refuse found ≡ refuse (codeOf (reasonIn b)) (placeOf b (wrongItem b))
   by-wrong h refuse found = ap (λ (j : Judgement). onJudgement j refuse found) (one-wrong b h)
 
-  pub by-none : length (b .items) ≤ wrongItem b → {A : Type 0} (refuse : ℕ → ℕ → A) (found : A) → onJudgement (judgementOf b) refuse found ≡ found
+  pub by-none : length (itemsOf b) ≤ wrongItem b → {A : Type 0} (refuse : ℕ → ℕ → A) (found : A) → onJudgement (judgementOf b) refuse found ≡ found
   by-none h refuse found = ap (λ (j : Judgement). onJudgement j refuse found) (none-turned-down b h)
 
 -- ---- by trajectories
@@ -72,27 +72,27 @@ module _ (d : Device) (proper : Proper d) (x : Item) (starts : NoBitFrom (d .n) 
       go false p f q e = λ g. false≢true (sym p ∙ T-true (reverses d x) (reverses↔ d proper x starts .1 g))
 
 module _ (b : Book) (a : AllowedBook b) where
-  starts-states : (i : ℕ) → i < length (b .items) → NoBitFrom (b .n) (item (b .items) i .psi)
-  starts-states i l = each-at (AllowedItem (deviceOf b)) (b .items) (a .each-item) i absent l .psi-states
+  starts-states : (i : ℕ) → i < length (itemsOf b) → NoBitFrom (b .n) (item (itemsOf b) i .psi)
+  starts-states i l = each-at (AllowedItem (deviceOf b)) (itemsOf b) (a .each-item) i absent l .psi-states
 
-  accepted↔ : (i : ℕ) → i < length (b .items) → T (accepts (deviceOf b) (item (b .items) i)) ↔ Accepted (deviceOf b) (item (b .items) i)
-  accepted↔ i l = accepts↔ (deviceOf b) (device-proper b a) (item (b .items) i) (starts-states i l)
+  accepted↔ : (i : ℕ) → i < length (itemsOf b) → T (accepts (deviceOf b) (item (itemsOf b) i)) ↔ Accepted (deviceOf b) (item (itemsOf b) i)
+  accepted↔ i l = accepts↔ (deviceOf b) (device-proper b a) (item (itemsOf b) i) (starts-states i l)
 
-  tells : Tells (λ i. accepts (deviceOf b) (item (b .items) i)) (λ i. Accepted (deviceOf b) (item (b .items) i)) (length (b .items))
+  tells : Tells (λ i. accepts (deviceOf b) (item (itemsOf b) i)) (λ i. Accepted (deviceOf b) (item (itemsOf b) i)) (length (itemsOf b))
   tells = record { on = λ i l e. accepted↔ i l .0 (true-T _ e); of = λ i l p. T-true _ (accepted↔ i l .1 p) }
 
-  pub first-wrong : wrongItem b < length (b .items) → WrongFor b (wrongItem b) (reasonIn b)
+  pub first-wrong : wrongItem b < length (itemsOf b) → WrongFor b (wrongItem b) (reasonIn b)
   unfolding wrongItem
   first-wrong h =
       record {
-        first = lowest-wrong _ (length (b .items)) tells h;
+        first = lowest-wrong _ (length (itemsOf b)) tells h;
         due =
-            reason-due (deviceOf b) (device-proper b a) (item (b .items) (wrongItem b)) (starts-states (wrongItem b) h)
-            (fails (λ i. accepts (deviceOf b) (item (b .items) i)) (length (b .items)) h);
+            reason-due (deviceOf b) (device-proper b a) (item (itemsOf b) (wrongItem b)) (starts-states (wrongItem b) h)
+            (fails (λ i. accepts (deviceOf b) (item (itemsOf b) i)) (length (itemsOf b)) h);
       }
 
   -- 02's count of the units made
-  pub units-made : wrongItem b < length (b .items) → UnitsMade b (wrongItem b) (reasonIn b) (unitsOf b)
+  pub units-made : wrongItem b < length (itemsOf b) → UnitsMade b (wrongItem b) (reasonIn b) (unitsOf b)
   unfolding wrongItem accepts reasonFor pick both
   units-made h = go (reverses d x) refl
     where
@@ -100,37 +100,37 @@ module _ (b : Book) (a : AllowedBook b) where
       d = deviceOf b
 
       test : ℕ → Bool
-      test i = accepts d (item (b .items) i)
+      test i = accepts d (item (itemsOf b) i)
 
       i : ℕ
       i = wrongItem b
 
       x : Item
-      x = item (b .items) i
+      x = item (itemsOf b) i
 
-      up-to : unitsOf b ≡ sumUnits (b .n) (take i (b .items)) + itemMade d x
+      up-to : unitsOf b ≡ sumUnits (b .n) (take i (itemsOf b)) + itemMade d x
       up-to =
-          items-first d (device-proper b a) (b .items) i h (λ j l. true-T _ (passes test (length (b .items)) j l (omega arith)))
-          (fails test (length (b .items)) h)
+          items-first d (device-proper b a) (itemsOf b) i h (λ j l. true-T _ (passes test (length (itemsOf b)) j l (omega arith)))
+          (fails test (length (itemsOf b)) h)
 
       go : (r : Bool) → reverses d x ≡ r → UnitsMade b i (pick r NotEffective NoReversePlan) (unitsOf b)
-      go true e = up-to ∙ rw (item-all d (device-proper b a) x (true-T _ e)) (sym (sum-next (b .n) (b .items) i h))
+      go true e = up-to ∙ rw (item-all d (device-proper b a) x (true-T _ e)) (sym (sum-next (b .n) (itemsOf b) i h))
       go false e = (itemMade d x, units-to-failure d (device-proper b a) x (starts-states i h) e, up-to)
 
-  pub all-accepted : length (b .items) ≤ wrongItem b → Each (Accepted (deviceOf b)) (b .items)
+  pub all-accepted : length (itemsOf b) ≤ wrongItem b → Each (Accepted (deviceOf b)) (itemsOf b)
   unfolding wrongItem
-  all-accepted h = each-of (Accepted (deviceOf b)) (b .items) absent (none-lowest _ (length (b .items)) tells h)
+  all-accepted h = each-of (Accepted (deviceOf b)) (itemsOf b) absent (none-lowest _ (length (itemsOf b)) tells h)
 
   -- and the other way
-  pub none-wrong : Each (Accepted (deviceOf b)) (b .items) → length (b .items) ≤ wrongItem b
+  pub none-wrong : Each (Accepted (deviceOf b)) (itemsOf b) → length (itemsOf b) ≤ wrongItem b
   unfolding wrongItem
-  none-wrong e = wrong-none _ (length (b .items)) tells (λ i l. each-at (Accepted (deviceOf b)) (b .items) e i absent l)
+  none-wrong e = wrong-none _ (length (itemsOf b)) tells (λ i l. each-at (Accepted (deviceOf b)) (itemsOf b) e i absent l)
 
-  pub all-units : length (b .items) ≤ wrongItem b → unitsOf b ≡ sumUnits (b .n) (b .items)
+  pub all-units : length (itemsOf b) ≤ wrongItem b → unitsOf b ≡ sumUnits (b .n) (itemsOf b)
   unfolding wrongItem
   all-units h =
-      items-all (deviceOf b) (device-proper b a) (b .items)
-      (each-of (λ x. T (accepts (deviceOf b) x)) (b .items) absent (λ i l. true-T _ (passes (λ i. accepts (deviceOf b) (item (b .items) i)) (length (b .items)) i (omega arith) l)))
+      items-all (deviceOf b) (device-proper b a) (itemsOf b)
+      (each-of (λ x. T (accepts (deviceOf b) x)) (itemsOf b) absent (λ i l. true-T _ (passes (λ i. accepts (deviceOf b) (item (itemsOf b) i)) (length (itemsOf b)) i (omega arith) l)))
 
 -- ---- the call
 module _ {s : List ℕ} {l : Lent} {r : Checking} {l′ : Lent} (c : CheckAs s l r l′) where
@@ -148,20 +148,20 @@ module _ {s : List ℕ} {l : Lent} {r : Checking} {l′ : Lent} (c : CheckAs s l
   unfolding checkBy
   result-book k b e = c .result ∙ ap₂ withUnits (when-fine s l refusal (judgedBy refusal done) k b e) (when-fine s l (λ code place. 0) unitsOf k b e)
 
-  pub result-wrong : LongEnough (sizes l) → (b : Book) → parse s ≡ Ok b → wrongItem b < length (b .items)
+  pub result-wrong : LongEnough (sizes l) → (b : Book) → parse s ≡ Ok b → wrongItem b < length (itemsOf b)
       → r ≡ withUnits (refusal (codeOf (reasonIn b)) (placeOf b (wrongItem b))) (unitsOf b)
   result-wrong k b e h = result-book k b e ∙ ap (λ (q : Reading). withUnits q (unitsOf b)) (by-wrong b h refusal (done b))
 
-  pub result-fine : LongEnough (sizes l) → (b : Book) → parse s ≡ Ok b → length (b .items) ≤ wrongItem b → r ≡ withUnits (done b) (unitsOf b)
+  pub result-fine : LongEnough (sizes l) → (b : Book) → parse s ≡ Ok b → length (itemsOf b) ≤ wrongItem b → r ≡ withUnits (done b) (unitsOf b)
   result-fine k b e h = result-book k b e ∙ ap (λ (q : Reading). withUnits q (unitsOf b)) (by-none b h refusal (done b))
 
   pub checks : Checks s l r l′
   checks = go (way s l)
     where
-      judged : LongEnough (sizes l) → (b : Book) → parse s ≡ Ok b → AllowedBook b → bytesOf b ≡ s → Dec (wrongItem b < length (b .items)) → Checks s l r l′
+      judged : LongEnough (sizes l) → (b : Book) → parse s ≡ Ok b → AllowedBook b → bytesOf b ≡ s → Dec (wrongItem b < length (itemsOf b)) → Checks s l r l′
       judged k b e a same (yes h) = wrong b (filled (c .buffers) k b a same e) (first-wrong b a h) (units-made b a h) (result-wrong k b e h)
       judged k b e a same (no h) =
-          let none : length (b .items) ≤ wrongItem b = omega arith in
+          let none : length (itemsOf b) ≤ wrongItem b = omega arith in
           fine b (record { filled = filled (c .buffers) k b a same e; accepted = all-accepted b a none })
           (result-fine k b e none ∙ ap (withUnits (done b)) (all-units b a none))
 
@@ -170,4 +170,4 @@ module _ {s : List ℕ} {l : Lent} {r : Checking} {l′ : Lent} (c : CheckAs s l
       go (by-fault k code place e) =
           let f = refused-exactly s code place (c .bytes) .0 e in
           unread (reads.faulty k f refl (c .buffers ∙ when-faulty s l _ _ k code place e)) (λ z. omega (arith, refusal-codes s code place f)) (result-faulty k code place e)
-      go (by-book k b e) = let (a, same) = parse-fine s b (c .bytes) e in judged k b e a same (decLt (wrongItem b) (length (b .items)))
+      go (by-book k b e) = let (a, same) = parse-fine s b (c .bytes) e in judged k b e a same (decLt (wrongItem b) (length (itemsOf b)))

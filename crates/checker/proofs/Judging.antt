@@ -16,7 +16,7 @@ use Rattle.reversal.specs.Chains.{absent, item}
 use Rattle.reversal.specs.Computed.Sets.{reverses, effective, accepts}
 use Rattle.reversal.specs.Computed.Units.{itemMade, itemsMade}
 use Rattle.reversal.proofs.Units.{items-most, sum-bound}
-use Rattle.book.specs.Book.{Book, deviceOf, AllowedBook, bytesOf, itemRec, frame, framed}
+use Rattle.book.specs.Book.{Book, deviceOf, AllowedBook, bytesOf, itemRec, frame, framed, itemsOf}
 use Rattle.book.proofs.Scanning.{book-length}
 use Rattle.items.specs.Items.{Begins, ItemStands}
 use Rattle.items.proofs.Laws.{in-book}
@@ -37,7 +37,7 @@ sizes (x ∷ xs) ys =
 
 place-is : {s : List ℕ} {b : Book} {i at : ℕ} → ItemStands s b i at → at ≡ placeOf b i
 place-is {s} {b} {i} {at} h =
-    let xs = b .items in
+    let xs = itemsOf b in
     let before : Book = record { n = b .n; m = b .m; weights = b .weights; moves = b .moves; items = take i xs } in
     let whole = ap (λ (ys : List Item). length (framed (map itemRec ys))) (sym (take-append-drop i xs)) in
     omega (
@@ -54,13 +54,13 @@ place-is {s} {b} {i} {at} h =
 
 -- ---- the answer for a book, by its first wrong item
 module _ (b : Book) where
-  pub all-accepted : length (b .items) ≤ wrongItem b → judgementOf b ≡ AllAccepted
+  pub all-accepted : length (itemsOf b) ≤ wrongItem b → judgementOf b ≡ AllAccepted
   unfolding judgementOf
-  all-accepted l = sym (less-no AllAccepted _ AllAccepted (wrongItem b) (length (b .items)) l refl)
+  all-accepted l = sym (less-no AllAccepted _ AllAccepted (wrongItem b) (length (itemsOf b)) l refl)
 
-  pub one-wrong : wrongItem b < length (b .items) → judgementOf b ≡ Wrong (placeOf b (wrongItem b)) (reasonIn b)
+  pub one-wrong : wrongItem b < length (itemsOf b) → judgementOf b ≡ Wrong (placeOf b (wrongItem b)) (reasonIn b)
   unfolding judgementOf
-  one-wrong l = sym (less-yes (Wrong (placeOf b (wrongItem b)) (reasonIn b)) _ AllAccepted (wrongItem b) (length (b .items)) l refl)
+  one-wrong l = sym (less-yes (Wrong (placeOf b (wrongItem b)) (reasonIn b)) _ AllAccepted (wrongItem b) (length (itemsOf b)) l refl)
 
 -- ---- one item, by both rules
 module _ (d : Device) (x : Item) where
@@ -82,7 +82,7 @@ module _ (d : Device) (x : Item) where
 
 -- ---- the loop over items
 abbrev pub wrongAt : Device → Book → ℕ → Bool
-wrongAt d b i = not (accepts d (item (b .items) i))
+wrongAt d b i = not (accepts d (item (itemsOf b) i))
 
 -- a judgement with its units
 abbrev pub judging : Judgement → ℕ → JudgementMade
@@ -91,15 +91,15 @@ judging found units = record { found = found; units = units }
 -- the walk stands at an item's record, or past the last: what is left to judge gives the whole, and so do the units
 pub record Walking (d : Device) (s : List ℕ) (b : Book) (at units : ℕ) : Type 0 where
   pub number : ℕ
-  pub known : number ≤ length (b .items)
+  pub known : number ≤ length (itemsOf b)
   pub here : Begins s b number at
-  pub left : seek (wrongAt d b) number (length (b .items) - number) ≡ seek (wrongAt d b) 0 (length (b .items))
-  pub count : units + itemsMade d (drop number (b .items)) ≡ itemsMade d (b .items)
+  pub left : seek (wrongAt d b) number (length (itemsOf b) - number) ≡ seek (wrongAt d b) 0 (length (itemsOf b))
+  pub count : units + itemsMade d (drop number (itemsOf b)) ≡ itemsMade d (itemsOf b)
 
 module _ (d : Device) (s : List ℕ) (b : Book) where
   pub at-first : (at : ℕ) → Begins s b 0 at → Walking d s b at 0
   at-first at q =
-      let e : length (b .items) - 0 ≡ length (b .items) = omega arith in
+      let e : length (itemsOf b) - 0 ≡ length (itemsOf b) = omega arith in
       record { number = 0; known = omega arith; here = q; left = rw e; count = omega arith }
 
   module _ (a : AllowedBook b) (e : bytesOf b ≡ s) (at units : ℕ) (w : Walking d s b at units) where
@@ -107,24 +107,24 @@ module _ (d : Device) (s : List ℕ) (b : Book) where
     stands h = one-more a e (w .known) (w .here) h
 
     abbrev x : Item
-    x = item (b .items) (w .number)
+    x = item (itemsOf b) (w .number)
 
     module _ (h : at < length s) where
       -- the units of this item, and of those after it
-      this-item : units + (itemMade d x + pick (accepts d x) (itemsMade d (drop (w .number + 1) (b .items))) 0) ≡ itemsMade d (b .items)
+      this-item : units + (itemMade d x + pick (accepts d x) (itemsMade d (drop (w .number + 1) (itemsOf b))) 0) ≡ itemsMade d (itemsOf b)
       unfolding itemsMade
       this-item =
-          let split : drop (w .number) (b .items) ≡ x ∷ drop (w .number + 1) (b .items) = rw add-one (drop-cons (b .items) (w .number) absent (stands h .known)) in
+          let split : drop (w .number) (itemsOf b) ≡ x ∷ drop (w .number + 1) (itemsOf b) = rw add-one (drop-cons (itemsOf b) (w .number) absent (stands h .known)) in
           rw split at (w .count)
 
       -- they are few
       pub few-units : d .n ≤ 64 → units + itemMade d x ≤ 65536
-      few-units few = omega (arith, this-item, items-most d (b .items), sum-bound (d .n) (deviceOf b) (b .items) few (a .each-item), a .few)
+      few-units few = omega (arith, this-item, items-most d (itemsOf b), sum-bound (d .n) (deviceOf b) (itemsOf b) few (a .each-item), a .few)
 
       pub at-next : (next : ℕ) → Begins s b (w .number + 1) next → accepts d x ≡ true → (units′ : ℕ) → units′ ≡ units + itemMade d x → Walking d s b next units′
       unfolding seek pick
       at-next next q f units′ u =
-          let l : length (b .items) - w .number ≡ suc (length (b .items) - (w .number + 1)) = omega (arith, stands h .known) in
+          let l : length (itemsOf b) - w .number ≡ suc (length (itemsOf b) - (w .number + 1)) = omega (arith, stands h .known) in
           record {
             number = w .number + 1;
             known = omega (arith, stands h .known);
@@ -138,10 +138,10 @@ module _ (d : Device) (s : List ℕ) (b : Book) where
       unfolding wrongItem seek itemsMade
       none-wrong h =
           let all = all-passed a e (w .known) (w .here) h in
-          let z : length (b .items) - w .number ≡ 0 = omega arith in
+          let z : length (itemsOf b) - w .number ≡ 0 = omega arith in
           let i : w .number ≡ wrongItem b = rw (z, device) at (w .left) in
-          let past : length (b .items) ≤ w .number = omega arith in
-          let none : drop (w .number) (b .items) ≡ [] = drop-of-length-le (b .items) past in
+          let past : length (itemsOf b) ≤ w .number = omega arith in
+          let none : drop (w .number) (itemsOf b) ≡ [] = drop-of-length-le (itemsOf b) past in
           let c : units + 0 ≡ unitsOf b = rw (none, device) at (w .count) in
           ap₂ judging (sym (all-accepted b (omega arith))) (omega arith)
 
@@ -149,9 +149,9 @@ module _ (d : Device) (s : List ℕ) (b : Book) where
           → judging (Wrong at why) units′ ≡ judging (judgementOf b) (unitsOf b)
       unfolding wrongItem seek pick
       found h why (f, r) units′ u =
-          let l : length (b .items) - w .number ≡ suc (length (b .items) - (w .number + 1)) = omega (arith, stands h .known) in
+          let l : length (itemsOf b) - w .number ≡ suc (length (itemsOf b) - (w .number + 1)) = omega (arith, stands h .known) in
           let i : w .number ≡ wrongItem b = rw (l, ap not f, device) at (w .left) in
           let here : reasonIn b ≡ why = rw (← i, ← device) r in
-          let g : units + (itemMade d x + 0) ≡ itemsMade d (b .items) = rw f at (this-item h) in
-          let c : itemsMade d (b .items) ≡ unitsOf b = ap (λ (y : Device). itemsMade y (b .items)) device in
+          let g : units + (itemMade d x + 0) ≡ itemsMade d (itemsOf b) = rw f at (this-item h) in
+          let c : itemsMade d (itemsOf b) ≡ unitsOf b = ap (λ (y : Device). itemsMade y (itemsOf b)) device in
           ap₂ judging (ap₂ Wrong (place-is (stands h) ∙ ap (placeOf b) i) (sym here) ∙ sym (one-wrong b (omega (arith, stands h .known)))) (omega arith)

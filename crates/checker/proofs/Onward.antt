@@ -6,7 +6,7 @@ use native.Mathlib.Omega.{arith}
 use native.Mathlib.Decide.{decLt}
 use lib.ListN.{length}
 use Rattle.base.specs.Sizes.{LongEnough}
-use Rattle.book.specs.Book.{Book}
+use Rattle.book.specs.Book.{Book, itemsOf}
 use Rattle.book.specs.Lent.{Lent, sizes}
 use Rattle.book.specs.Parse.{parse}
 use Rattle.book.specs.Parse.Parsed.{Ok}
@@ -67,7 +67,7 @@ module _ {s : List ℕ} {l : Lent} {r : Checking} {l′ : Lent} (c : CheckAs s l
         at : {x : Checking} → r ≡ x → (r .code ≡ x .code) × (r .place ≡ x .place)
         at e = (ap (λ (y : Checking). y .code) e, ap (λ (y : Checking). y .place) e)
 
-        judged : LongEnough (sizes l) → (b : Book) → parse s ≡ Ok b → Dec (wrongItem b < length (b .items)) → checkBy s l refuse fine ≡ refuse (r .code) (r .place)
+        judged : LongEnough (sizes l) → (b : Book) → parse s ≡ Ok b → Dec (wrongItem b < length (itemsOf b)) → checkBy s l refuse fine ≡ refuse (r .code) (r .place)
         judged k b e (yes h) =
             let q = at (result-wrong c k b e h) in
             same-refusal (when-fine s l refuse (judgedBy refuse fine) k b e ∙ by-wrong b h refuse (fine b)) (q .0) (q .1)
@@ -77,4 +77,4 @@ module _ {s : List ℕ} {l : Lent} {r : Checking} {l′ : Lent} (c : CheckAs s l
         go (by-short h) = let q = at (result-short c h) in same-refusal (when-short s l refuse (judgedBy refuse fine) h) (q .0) (q .1)
         go (by-fault k code place e) =
             let q = at (result-faulty c k code place e) in same-refusal (when-faulty s l refuse (judgedBy refuse fine) k code place e) (q .0) (q .1)
-        go (by-book k b e) = judged k b e (decLt (wrongItem b) (length (b .items)))
+        go (by-book k b e) = judged k b e (decLt (wrongItem b) (length (itemsOf b)))

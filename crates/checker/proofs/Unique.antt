@@ -16,7 +16,7 @@ use Rattle.reversal.specs.Reversal.{Item, Accepted}
 use Rattle.reversal.specs.Chains.{absent, item}
 use Rattle.reversal.specs.Units.{sumUnits}
 use Rattle.reversal.proofs.Units.{to-failure-unique, to-failure-within, sum-next, sum-front}
-use Rattle.book.specs.Book.{Book, deviceOf, AllowedBook, bytesOf}
+use Rattle.book.specs.Book.{Book, deviceOf, AllowedBook, bytesOf, itemsOf}
 use Rattle.book.specs.Lent.{Lent, sizes}
 use Rattle.book.proofs.Codes.{ReadCode, refusal-codes}
 use Rattle.book.proofs.Unique.{one-book}
@@ -34,7 +34,7 @@ one-wrong : (b : Book) {i j : ℕ} → FirstWrong b i → FirstWrong b j → i �
 one-wrong b f g = one-lowest f g
 
 none-wrong : (b : Book) {i : ℕ} → FirstWrong b i → AllAccepted b → ⊥
-none-wrong b {i} f e = f .wrong (each-at (Accepted (deviceOf b)) (b .items) e i absent (f .inside))
+none-wrong b {i} f e = f .wrong (each-at (Accepted (deviceOf b)) (itemsOf b) e i absent (f .inside))
 
 -- an item has one reason at most, and a code one
 due-unique : (d : Device) (x : Item) (why other : Reason) → Due why d x → Due other d x → why ≡ other
@@ -63,24 +63,24 @@ no-reading NotEffective (inr e) = omega arith
 same-wrong : (b : Book) {i j : ℕ} {why other : Reason} → WrongFor b i why → WrongFor b j other → (i ≡ j) × (why ≡ other)
 same-wrong b {i} {j} {why} {other} f g =
     let e : i ≡ j = one-wrong b (f .first) (g .first) in
-    (e, due-unique (deviceOf b) (item (b .items) j) why other (subst (λ (k : ℕ). Due why (deviceOf b) (item (b .items) k)) e (f .due)) (g .due))
+    (e, due-unique (deviceOf b) (item (itemsOf b) j) why other (subst (λ (k : ℕ). Due why (deviceOf b) (item (itemsOf b) k)) e (f .due)) (g .due))
 
 -- and the units made are one number
 pub made-unique : (b : Book) (i : ℕ) (why : Reason) {u v : ℕ} → UnitsMade b i why u → UnitsMade b i why v → u ≡ v
 made-unique b i NoReversePlan (h, p, e) (k, q, f) =
-    e ∙ ap (λ (x : ℕ). sumUnits (b .n) (take i (b .items)) + x) (to-failure-unique (deviceOf b) (item (b .items) i) p q) ∙ sym f
+    e ∙ ap (λ (x : ℕ). sumUnits (b .n) (take i (itemsOf b)) + x) (to-failure-unique (deviceOf b) (item (itemsOf b) i) p q) ∙ sym f
 made-unique b i NotEffective e f = e ∙ sym f
 
 -- 02: "at most the forecast on 8 or 12"
-made-within : (b : Book) (i : ℕ) (why : Reason) → i < length (b .items) → {u : ℕ} → UnitsMade b i why u → u ≤ sumUnits (b .n) (b .items)
+made-within : (b : Book) (i : ℕ) (why : Reason) → i < length (itemsOf b) → {u : ℕ} → UnitsMade b i why u → u ≤ sumUnits (b .n) (itemsOf b)
 made-within b i NoReversePlan l (h, p, e) =
     omega (
       arith,
-      to-failure-within (deviceOf b) (item (b .items) i) p,
-      sum-next (b .n) (b .items) i l,
-      sum-front (b .n) (b .items) (suc i),
+      to-failure-within (deviceOf b) (item (itemsOf b) i) p,
+      sum-next (b .n) (itemsOf b) i l,
+      sum-front (b .n) (itemsOf b) (suc i),
     )
-made-within b i NotEffective l e = omega (arith, sum-front (b .n) (b .items) (suc i))
+made-within b i NotEffective l e = omega (arith, sum-front (b .n) (itemsOf b) (suc i))
 
 read-codes : {book : List ℕ} {l : Lent} {r : Reading} {l′ : Lent} → Reads book l r l′ → ReadCode (r .code)
 read-codes (reads.short a e k) = inl (omega (arith, ap (λ (x : Reading). x .code) e))
@@ -148,7 +148,7 @@ module _ {book : List ℕ} {l : Lent} {r : Checking} {l′ : Lent} (h : Bytes bo
 
   -- ---- the answer for a book that is known
   pub checked-fine : Checks book l r l′ → LongEnough (sizes l) → {b : Book} → AcceptedBook book b
-      → (r ≡ withUnits (done b) (sumUnits (b .n) (b .items))) × Checked book l b l′
+      → (r ≡ withUnits (done b) (sumUnits (b .n) (itemsOf b))) × Checked book l b l′
   checked-fine (unread x n e) long a = absurd (unread-not h x n long (a .allowed) (a .bytes))
   checked-fine (wrong b′ f {i} {why} w u e) long {b} a =
       absurd (none-wrong b (subst (λ (c : Book). WrongFor c i why) (this-book (a .allowed) (a .bytes) f) w .first) (a .accepted))
@@ -209,10 +209,10 @@ module _ {book : List ℕ} {l : Lent} {r : Checking} {l′ : Lent} (h : Bytes bo
         go (fine b k e) = absurd (z (code-of e))
 
     -- no more than the sum over all items
-    pub units-within : {b : Book} → AllowedBook b → bytesOf b ≡ book → r .units ≤ sumUnits (b .n) (b .items)
+    pub units-within : {b : Book} → AllowedBook b → bytesOf b ≡ book → r .units ≤ sumUnits (b .n) (itemsOf b)
     units-within {b} a same = go x
       where
-        go : Checks book l r l′ → r .units ≤ sumUnits (b .n) (b .items)
+        go : Checks book l r l′ → r .units ≤ sumUnits (b .n) (itemsOf b)
         go (unread y n e) = omega (arith, ap (λ (c : Checking). c .units) e)
         go (wrong b′ f {i} {why} w {units} u e) =
             let q : b′ ≡ b = this-book a same f in

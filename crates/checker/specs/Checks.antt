@@ -10,7 +10,7 @@ use Rattle.base.specs.Lowest.{LowestWrong}
 use Rattle.reversal.specs.Reversal.{Accepted}
 use Rattle.reversal.specs.Units.{sumUnits, UnitsToFailure}
 use Rattle.reversal.specs.Chains.{item}
-use Rattle.book.specs.Book.{Book, deviceOf, AllowedBook, bytesOf}
+use Rattle.book.specs.Book.{Book, deviceOf, AllowedBook, bytesOf, itemsOf}
 use Rattle.book.specs.Lent.{Lent}
 use Rattle.reader.specs.declared.Reading.{Reading}
 use Rattle.reader.specs.Reads.{refusal, done, Filled, Reads}
@@ -21,7 +21,7 @@ use Rattle.checker.specs.Reasons.{codeOf, Due}
 
 -- "every item in it is accepted"
 abbrev pub AllAccepted : Book → Type 0
-AllAccepted b = Each (Accepted (deviceOf b)) (b .items)
+AllAccepted b = Each (Accepted (deviceOf b)) (itemsOf b)
 
 -- 01: "A book is accepted when it keeps the rules for its bytes and every item in it is accepted."
 pub record AcceptedBook (book : List ℕ) (b : Book) : Type 0 where
@@ -31,24 +31,24 @@ pub record AcceptedBook (book : List ℕ) (b : Book) : Type 0 where
 
 -- the offset of item i's record: what stands before it is the book with the items before it
 abbrev pub placeOf : Book → ℕ → ℕ
-placeOf b i = length (bytesOf (record { n = b .n; m = b .m; weights = b .weights; moves = b .moves; items = take i (b .items) }))
+placeOf b i = length (bytesOf (record { n = b .n; m = b .m; weights = b .weights; moves = b .moves; items = take i (itemsOf b) }))
 
 -- item i is the first wrong one
 abbrev pub FirstWrong : Book → ℕ → Type 0
-FirstWrong b i = LowestWrong (λ j. Accepted (deviceOf b) (item (b .items) j)) (length (b .items)) i
+FirstWrong b i = LowestWrong (λ j. Accepted (deviceOf b) (item (itemsOf b) j)) (length (itemsOf b)) i
 
 -- item i is the first wrong one, for this reason
 pub record WrongFor (b : Book) (i : ℕ) (why : Reason) : Type 0 where
   pub first : FirstWrong b i
-  pub due : Due why (deviceOf b) (item (b .items) i)
+  pub due : Due why (deviceOf b) (item (itemsOf b) i)
 
 -- 02: "Items come as they stand"; "The check carries the count that it made: .. On 8 it is the units up to and including the first reverse command
 -- that some state can't carry out, or the start's last command where a run ends outside S; on 12, all units up to that item's end.": item i of b is
 -- the first wrong one
 abbrev pub UnitsMade : Book → ℕ → Reason → ℕ → Type 0
 UnitsMade b i NoReversePlan units =
-    (here : ℕ) × UnitsToFailure (deviceOf b) (item (b .items) i) here × (units ≡ sumUnits (b .n) (take i (b .items)) + here)
-UnitsMade b i NotEffective units = units ≡ sumUnits (b .n) (take (suc i) (b .items))
+    (here : ℕ) × UnitsToFailure (deviceOf b) (item (itemsOf b) i) here × (units ≡ sumUnits (b .n) (take i (itemsOf b)) + here)
+UnitsMade b i NotEffective units = units ≡ sumUnits (b .n) (take (suc i) (itemsOf b))
 
 -- the buffers read from a book that is accepted
 pub record Checked (book : List ℕ) (l : Lent) (b : Book) (l′ : Lent) : Type 0 where
@@ -68,4 +68,4 @@ pub data Checks (book : List ℕ) (l : Lent) (result : Checking) (l′ : Lent) :
   wrong : (b : Book) → Filled book l b l′ → {i : ℕ} {why : Reason} → WrongFor b i why → {units : ℕ} → UnitsMade b i why units
       → result ≡ withUnits (refusal (codeOf why) (placeOf b i)) units → Checks book l result l′
   -- "0, 0: done"; 02: "equal to the forecast on acceptance"
-  fine : (b : Book) → Checked book l b l′ → result ≡ withUnits (done b) (sumUnits (b .n) (b .items)) → Checks book l result l′
+  fine : (b : Book) → Checked book l b l′ → result ≡ withUnits (done b) (sumUnits (b .n) (itemsOf b)) → Checks book l result l′

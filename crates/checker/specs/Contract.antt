@@ -15,7 +15,7 @@ use Rattle.reversal.specs.Chains.{item}
 use Rattle.reversal.specs.Computed.Sets.{runsBack, reverses, accepts}
 use Rattle.reversal.specs.Computed.Units.{backUnits, itemsMade}
 use Rattle.moves.specs.Moves.{moved}
-use Rattle.book.specs.Book.{Book, deviceOf, AllowedBook, bytesOf}
+use Rattle.book.specs.Book.{Book, deviceOf, AllowedBook, bytesOf, itemsOf}
 use Rattle.book.specs.Lent.{Lent, sizes}
 use Rattle.reader.specs.declared.Reading.{Reading}
 use Rattle.reader.specs.Reads.{refusal, done}
@@ -42,7 +42,7 @@ asNumber b = 2 * b .units + pick (b .right) 1 0
 
 -- the lowest item that is not accepted, or their number
 unfoldable pub wrongItem : Book → ℕ
-wrongItem b = seek (λ i. not (accepts (deviceOf b) (item (b .items) i))) 0 (length (b .items))
+wrongItem b = seek (λ i. not (accepts (deviceOf b) (item (itemsOf b) i))) 0 (length (itemsOf b))
 
 -- the reason of an item that is not accepted
 unfoldable pub reasonFor : Device → Item → Reason
@@ -50,15 +50,15 @@ reasonFor d x = pick (reverses d x) NotEffective NoReversePlan
 
 -- that of the lowest such item
 abbrev pub reasonIn : Book → Reason
-reasonIn b = reasonFor (deviceOf b) (item (b .items) (wrongItem b))
+reasonIn b = reasonFor (deviceOf b) (item (itemsOf b) (wrongItem b))
 
 -- the judgement of the items of b: the first wrong one's record, and why
 unfoldable pub judgementOf : Book → Judgement
-judgementOf b = pick (less (wrongItem b) (length (b .items))) (Wrong (placeOf b (wrongItem b)) (reasonIn b)) AllAccepted
+judgementOf b = pick (less (wrongItem b) (length (itemsOf b))) (Wrong (placeOf b (wrongItem b)) (reasonIn b)) AllAccepted
 
 -- the units made for it
 abbrev pub unitsOf : Book → ℕ
-unitsOf b = itemsMade (deviceOf b) (b .items)
+unitsOf b = itemsMade (deviceOf b) (itemsOf b)
 
 -- the contract of `first_wrong`: book s, the device d that is lent, answer r
 abbrev pub Judged : List ℕ → Device → JudgementMade → Type 0

@@ -9,7 +9,7 @@ use Rattle.reversal.specs.Runs.{Run, last}
 use Rattle.reversal.specs.Units.{sumUnits}
 use Rattle.reversal.specs.Answers.{Answer, no-history, no-chain, done}
 use Rattle.octets.specs.Le.{bytesLe}
-use Rattle.book.specs.Book.{Book, AllowedBook, bytesOf, frame}
+use Rattle.book.specs.Book.{Book, AllowedBook, bytesOf, frame, itemsOf}
 use Rattle.book.specs.Lent.{Lent}
 use Rattle.book.proofs.Codes.{refusal-codes}
 use Rattle.book.proofs.Unique.{one-book}
@@ -33,7 +33,7 @@ use Rattle.claims.specs.Claims.{UnitsForeseen}
 -- ---- checking
 -- the book that was forecast
 foreseen-units : {book : List ℕ} {i : ℕ} {q : Forecasted} → Forecasts book i q → q .code ≡ 0
-    → (b : Book) × AllowedBook b × (bytesOf b ≡ book) × (q .units ≡ sumUnits (b .n) (b .items))
+    → (b : Book) × AllowedBook b × (bytesOf b ≡ book) × (q .units ≡ sumUnits (b .n) (itemsOf b))
 foreseen-units {book} (faulty f e) z = absurd (omega (arith, ap (λ (x : Forecasted). x .code) e, refusal-codes book _ _ f))
 foreseen-units (long w l e) z = absurd (omega (arith, ap (λ (x : Forecasted). x .code) e))
 foreseen-units (fine b a same l m e) z = (b, a, same, ap (λ (x : Forecasted). x .units) e)
@@ -46,7 +46,7 @@ units-foreseen {r = r} h x =
           let (b, a, same, u) = foreseen-units f c in
           let (enough, (b′, ok)) = zero↔ h x .0 z in
           let e : b′ ≡ b = one-book b′ b (ok .allowed) a (ok .bytes ∙ sym same) in
-          ap (λ (y : Checking). y .units) (checked-fine h x enough ok .0) ∙ ap (λ (y : Book). sumUnits (y .n) (y .items)) e ∙ sym u;
+          ap (λ (y : Checking). y .units) (checked-fine h x enough ok .0) ∙ ap (λ (y : Book). sumUnits (y .n) (itemsOf y)) e ∙ sym u;
       at-most = λ i q f c. let (b, a, same, u) = foreseen-units f c in omega (arith, units-within h x a same);
       none = λ z e t. no-units h x z (go e t);
     }

@@ -6,7 +6,7 @@ use native.Mathlib.Omega.{arith}
 use lib.ListN.{length, take}
 use Rattle.base.specs.Lists.{Bytes}
 use Rattle.base.specs.Sizes.{LongEnough}
-use Rattle.book.specs.Book.{Book, deviceOf, AllowedBook, bytesOf}
+use Rattle.book.specs.Book.{Book, deviceOf, AllowedBook, bytesOf, itemsFor}
 use Rattle.book.specs.Lent.{Lent, slotsBytes, Holds}
 use Rattle.book.proofs.Codes.{refusal-codes}
 use Rattle.book.proofs.Slots.{length-slots}
@@ -57,8 +57,8 @@ read-back {book} {l} {r} {l′} h reads n m items given out w out′ x z e long 
     same : bytesOf b ≡ book
     same = sym (e ∙ book-bytes (done-of z x .1 .3))
 
-    size : length (slotsBytes (b .items)) ≡ 34 * items
-    size = length-slots (deviceOf b) (b .items) (allowed .each-item) ∙ ap (λ (k : ℕ). 34 * k) (holds .count)
+    size : length (slotsBytes (itemsFor b)) ≡ 34 * items
+    size = length-slots (deviceOf b) (itemsFor b) (allowed .each-item) ∙ ap (λ (k : ℕ). 34 * k) (holds .count)
 
     weighed : length (b .weights) ≡ m
     weighed = allowed .weighed .count ∙ holds .commands
@@ -68,7 +68,7 @@ read-back {book} {l} {r} {l′} h reads n m items given out w out′ x z e long 
         record {
           result =
               q
-              ∙ (ap₂ (λ (i j : ℕ). record { code = 0; place = 0; n = i; m = j; items = length (b .items) }) (holds .states) (holds .commands)
+              ∙ (ap₂ (λ (i j : ℕ). record { code = 0; place = 0; n = i; m = j; items = length (itemsFor b) }) (holds .states) (holds .commands)
               ∙ ap (λ (k : ℕ). record { code = 0; place = 0; n = n; m = m; items = k }) (holds .count));
           entries =
               λ i k.

@@ -10,7 +10,7 @@ use denote.Ref.{now}
 use Rattle.base.specs.Sizes.{LongEnough}
 use Rattle.reversal.specs.Runs.{Run, last}
 use Rattle.reversal.specs.Chains.{Chain, planOf}
-use Rattle.book.specs.Book.{Book, deviceOf, AllowedBook, bytesOf, WellFormed}
+use Rattle.book.specs.Book.{Book, deviceOf, AllowedBook, bytesOf, WellFormed, itemsFor}
 use Rattle.book.specs.Lent.{Lent, lent, sizes, Holds}
 use Rattle.reader.specs.declared.Reading.{Reading}
 use Rattle.reader.specs.Reads.{refusal, Reads}
@@ -194,8 +194,8 @@ pub record ForecastNumbers (book : List ℕ) (i : ℕ) (r : Forecasted) : Type 0
 -- 02: "plan bytes and legs that no run of i commands exceeds": every chain of the book's items that fits any run of i commands
 abbrev pub NoneExceeds : Forecast
 NoneExceeds book i r =
-    r .code ≡ 0 → (b : Book) → AllowedBook b → bytesOf b ≡ book → (u : Run) → last u ≡ i → (xs : List ℕ) → Chain (deviceOf b) u (b .items) (last u) xs
-    → (length (planOf (b .items) xs) ≤ r .«plan_bytes») × (length xs ≤ r .legs)
+    r .code ≡ 0 → (b : Book) → AllowedBook b → bytesOf b ≡ book → (u : Run) → last u ≡ i → (xs : List ℕ) → Chain (deviceOf b) u (itemsFor b) (last u) xs
+    → (length (planOf (itemsFor b) xs) ≤ r .«plan_bytes») × (length xs ≤ r .legs)
 
 pub record ForecastClaims (ρ : Routine) : Type 2 where
   -- 02: "A forecast gives, for any well-formed book, with no buffer lent and no command applied, .."; reading's codes, then 9

@@ -18,7 +18,7 @@ use Rattle.reversal.specs.Chains.{Chain, planOf}
 use Rattle.reversal.specs.Units.{sumUnits, LargestReverse}
 use Rattle.reversal.proofs.Units.{sum-bound}
 use Rattle.reversal.proofs.Sizes.{legs-within, plan-within}
-use Rattle.book.specs.Book.{Book, deviceOf, AllowedBook, bytesOf}
+use Rattle.book.specs.Book.{Book, deviceOf, AllowedBook, bytesOf, itemsOf, itemsFor}
 use Rattle.book.proofs.Codes.{refusal-codes}
 use Rattle.book.proofs.Fields.{clear-on}
 use Rattle.book.proofs.Unique.{one-book}
@@ -30,7 +30,7 @@ pub units-bound : {s : List ℕ} {i : ℕ} {r : Forecasted} → Forecasts s i r 
 units-bound (faulty f e) = omega (arith, ap (λ (x : Forecasted). x .units) e)
 units-bound (long w l e) = omega (arith, ap (λ (x : Forecasted). x .units) e)
 units-bound (fine b a same l m e) =
-    omega (arith, ap (λ (x : Forecasted). x .units) e, sum-bound (b .n) (deviceOf b) (b .items) (a .device .n-high) (a .each-item), a .few)
+    omega (arith, ap (λ (x : Forecasted). x .units) e, sum-bound (b .n) (deviceOf b) (itemsOf b) (a .device .n-high) (a .each-item), a .few)
 
 -- 64 items of 8 forward and 8 reverse commands, each with all 64 states for starts
 abbrev item : Item
@@ -70,7 +70,7 @@ full-units : (k : ℕ) → sumUnits 64 (replicate k item) ≡ 1024 * k
 full-units zero = refl
 full-units (suc k) = rw all-starts (omega (arith, full-units k))
 
-full-largest : LargestReverse (full .items) 8
+full-largest : LargestReverse (itemsOf full) 8
 full-largest = record { none-above = each-replicate (λ (x : Item). length (x .reverse) ≤ 8) 64 {x = item} (lit≤ tt); reached = inr (0, lit< tt, refl) }
 
 pub units-reached : (b : Book) × AllowedBook b × Forecasts (bytesOf b) 32 (record { code = 0; place = 0; units = 65536; «plan_bytes» = 256; legs = 32 })
@@ -79,25 +79,25 @@ units-reached =
 
 -- ---- plan bytes and legs: of every run of i commands, every chain from its last point
 pub none-exceeds : {s : List ℕ} {i : ℕ} {r : Forecasted} → Forecasts s i r → r .code ≡ 0 → (b : Book) → AllowedBook b → bytesOf b ≡ s
-    → (u : Run) → last u ≡ i → (xs : List ℕ) → Chain (deviceOf b) u (b .items) (last u) xs
-    → (length (planOf (b .items) xs) ≤ r .«plan_bytes») × (length xs ≤ r .legs)
+    → (u : Run) → last u ≡ i → (xs : List ℕ) → Chain (deviceOf b) u (itemsFor b) (last u) xs
+    → (length (planOf (itemsFor b) xs) ≤ r .«plan_bytes») × (length xs ≤ r .legs)
 none-exceeds {s} {i} {r} f z b a same u e xs c = go f
   where
-    within : {b′ : Book} {most : ℕ} → b′ ≡ b → LargestReverse (b′ .items) most → r ≡ foreseen b′ i most
-        → (length (planOf (b .items) xs) ≤ r .«plan_bytes») × (length xs ≤ r .legs)
+    within : {b′ : Book} {most : ℕ} → b′ ≡ b → LargestReverse (itemsOf b′) most → r ≡ foreseen b′ i most
+        → (length (planOf (itemsFor b) xs) ≤ r .«plan_bytes») × (length xs ≤ r .legs)
     within {most = most} x m q =
         let n = rw x at (m .none-above) in
         let j : i * most ≡ last u * most = rw e in (
           omega (
             arith,
-            plan-within (deviceOf b) u (b .items) (a .each-item) most n xs (last u) c,
+            plan-within (deviceOf b) u (itemsFor b) (a .each-item) most n xs (last u) c,
             ap (λ (x : Forecasted). x .«plan_bytes») q,
             j,
           ),
-          omega (arith, legs-within (deviceOf b) u (b .items) (a .each-item) xs (last u) c, ap (λ (x : Forecasted). x .legs) q),
+          omega (arith, legs-within (deviceOf b) u (itemsFor b) (a .each-item) xs (last u) c, ap (λ (x : Forecasted). x .legs) q),
         )
 
-    go : Forecasts s i r → (length (planOf (b .items) xs) ≤ r .«plan_bytes») × (length xs ≤ r .legs)
+    go : Forecasts s i r → (length (planOf (itemsFor b) xs) ≤ r .«plan_bytes») × (length xs ≤ r .legs)
     go (faulty g q) = absurd (omega (arith, ap (λ (x : Forecasted). x .code) q, refusal-codes s _ _ g))
     go (long w l q) = absurd (omega (arith, ap (λ (x : Forecasted). x .code) q))
     go (fine b′ a′ same′ l m q) = within (one-book b′ b a′ a (same′ ∙ sym same)) m q

@@ -11,7 +11,7 @@ use Rattle.base.specs.Cardinality.{member, present}
 use Rattle.base.specs.Masks.{clearFrom}
 use Rattle.reversal.specs.Computed.Units.{larger, largestFrom}
 use Rattle.reversal.proofs.Sizes.{largest-is}
-use Rattle.book.specs.Book.{Book, AllowedBook, bytesOf, WellFormed, allOne}
+use Rattle.book.specs.Book.{Book, AllowedBook, bytesOf, WellFormed, allOne, itemsOf}
 use Rattle.book.specs.Refusal.{Refusal}
 use Rattle.book.specs.Parse.{parse, cutAfter, scan, kindOf, step, moveOf, itemOf, weightsOf, weightsIn, movesIn, itemsIn}
 use Rattle.book.specs.Parse.Parsed.{Ok}
@@ -26,10 +26,10 @@ use Rattle.forecast.specs.Cases.{Foresees, QForecast}
 use Rattle.forecast.proofs.Unique.{forecasts-unique}
 
 module _ {s : List ℕ} (h : Bytes s) (i : ℕ) where
-  by-book : (b : Book) → AllowedBook b → bytesOf b ≡ s → i ≤ 32 → Foresees s i (foreseen b i (largestFrom 0 (b .items)))
-  by-book b a e l = record { result = λ f. forecasts-unique h f (fine b a e l (largest-is (b .items)) refl) }
+  by-book : (b : Book) → AllowedBook b → bytesOf b ≡ s → i ≤ 32 → Foresees s i (foreseen b i (largestFrom 0 (itemsOf b)))
+  by-book b a e l = record { result = λ f. forecasts-unique h f (fine b a e l (largest-is (itemsOf b)) refl) }
 
-  by-parse : (b : Book) → parse s ≡ Ok b → i ≤ 32 → Foresees s i (foreseen b i (largestFrom 0 (b .items)))
+  by-parse : (b : Book) → parse s ≡ Ok b → i ≤ 32 → Foresees s i (foreseen b i (largestFrom 0 (itemsOf b)))
   by-parse b e l = let (a, same) = parse-fine s b h e in by-book b a same l
 
   by-length : WellFormed s → 32 < i → Foresees s i (refusal 9 0)

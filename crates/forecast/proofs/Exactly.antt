@@ -6,6 +6,7 @@ use Prim.Native.Nat.{ℕ}
 use Rattle.base.specs.Compare.{less}
 use Rattle.base.proofs.Compare.{less-on, less-off}
 use Rattle.reversal.proofs.Sizes.{largest-is}
+use Rattle.book.specs.Book.{itemsOf}
 use Rattle.book.specs.Parse.{Parsed, parse}
 use Rattle.book.specs.Parse.Parsed.{Ok, Refused}
 use Rattle.book.proofs.Reading.{parse-fine}
@@ -28,4 +29,4 @@ forecasts {s} {i} {r} c = go (parse s) refl (less 32 i) refl
     go (Ok b) e false q =
         let h = less-off 32 i q in
         let (a, same) = parse-fine s b (c .bytes) e in
-        fine b a same h (largest-is (b .items)) (c .result ∙ when-read s i b e ∙ when-fine b i h)
+        fine b a same h (largest-is (itemsOf b)) (c .result ∙ when-read s i b e ∙ when-fine b i h)

@@ -7,7 +7,7 @@ use Rattle.base.proofs.Picks.{less-yes, less-no}
 use Rattle.reversal.specs.Computed.Units.{largestFrom}
 use Rattle.book.specs.declared.State.{State}
 use Rattle.book.specs.declared.Scan.the-variants.{Read, Fault}
-use Rattle.book.specs.Book.{Book}
+use Rattle.book.specs.Book.{Book, itemsOf}
 use Rattle.book.specs.Parse.{parse}
 use Rattle.book.specs.Parse.Parsed.{Ok, Refused}
 use Rattle.reader.specs.declared.Sums.{Sums}
@@ -22,7 +22,7 @@ module _ (b : Book) (i : ℕ) where
   unfolding forecastOf
   when-long h = sym (less-yes _ _ _ 32 i h refl)
 
-  pub when-fine : i ≤ 32 → forecastOf b i ≡ foreseen b i (largestFrom 0 (b .items))
+  pub when-fine : i ≤ 32 → forecastOf b i ≡ foreseen b i (largestFrom 0 (itemsOf b))
   unfolding forecastOf
   when-fine h = sym (less-no _ _ _ 32 i h refl)
 

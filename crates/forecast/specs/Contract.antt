@@ -6,7 +6,7 @@ use Rattle.base.specs.Lists.{Bytes}
 use Rattle.base.specs.Tests.{pick}
 use Rattle.base.specs.Compare.{less}
 use Rattle.reversal.specs.Computed.Units.{largestFrom}
-use Rattle.book.specs.Book.{Book}
+use Rattle.book.specs.Book.{Book, itemsOf}
 use Rattle.book.specs.Parse.{parse}
 use Rattle.reader.specs.Contract.{onParsed}
 use Rattle.forecast.specs.declared.Forecasted.{Forecasted}
@@ -14,7 +14,7 @@ use Rattle.forecast.specs.Forecasts.{refusal, foreseen}
 
 -- of a well-formed book
 unfoldable pub forecastOf : Book → ℕ → Forecasted
-forecastOf b i = pick (less 32 i) (refusal 9 0) (foreseen b i (largestFrom 0 (b .items)))
+forecastOf b i = pick (less 32 i) (refusal 9 0) (foreseen b i (largestFrom 0 (itemsOf b)))
 
 unfoldable pub forecastBy : List ℕ → ℕ → Forecasted
 forecastBy s i = onParsed (parse s) refusal (λ b. forecastOf b i)

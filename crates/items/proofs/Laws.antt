@@ -14,7 +14,7 @@ use Rattle.octets.specs.Le.{bytesLe}
 use Rattle.octets.specs.Parts.{le, leAt, piece}
 use Rattle.octets.proofs.LeAt.{le-past}
 use Rattle.octets.proofs.Put.{piece-at, piece-take}
-use Rattle.book.specs.Book.{Book, AllowedBook, deviceOf, frame, framed, itemRec, bytesOf}
+use Rattle.book.specs.Book.{Book, AllowedBook, deviceOf, frame, framed, itemRec, bytesOf, itemsOf}
 use Rattle.book.proofs.Fields.{mask-fits}
 use Rattle.book.proofs.Bodies.{first-eight, past-eight, item-length}
 use Rattle.book.proofs.Scanning.{length-frame}
@@ -59,16 +59,16 @@ module _ (s : List ℕ) (at : ℕ) (x : Item) (t : List ℕ) (e : drop at s ≡ 
 -- ---- the item of a book
 module _ {s : List ℕ} {b : Book} {i at : ℕ} (h : ItemStands s b i at) where
   -- it, and what follows it
-  stands : drop at s ≡ frame (itemRec (item (b .items) i)) ++ framed (map itemRec (drop (i + 1) (b .items)))
+  stands : drop at s ≡ frame (itemRec (item (itemsOf b) i)) ++ framed (map itemRec (drop (i + 1) (itemsOf b)))
   stands =
-      let e : drop i (b .items) ≡ item (b .items) i ∷ drop (i + 1) (b .items) = rw add-one (drop-cons (b .items) i absent (h .known)) in
+      let e : drop i (itemsOf b) ≡ item (itemsOf b) i ∷ drop (i + 1) (itemsOf b) = rw add-one (drop-cons (itemsOf b) i absent (h .known)) in
       h .begins ∙ ap (λ (l : List Item). framed (map itemRec l)) e
 
-  pub allowed : AllowedItem (deviceOf b) (item (b .items) i)
-  allowed = each-at (AllowedItem (deviceOf b)) (b .items) (h .allowed .each-item) i absent (h .known)
+  pub allowed : AllowedItem (deviceOf b) (item (itemsOf b) i)
+  allowed = each-at (AllowedItem (deviceOf b)) (itemsOf b) (h .allowed .each-item) i absent (h .known)
 
   pub in-book : at + 22 ≤ length s
-  in-book = omega (arith, inside s at (item (b .items) i) (framed (map itemRec (drop (i + 1) (b .items)))) stands)
+  in-book = omega (arith, inside s at (item (itemsOf b) i) (framed (map itemRec (drop (i + 1) (itemsOf b)))) stands)
 
 same-item : (x : Item) {forward reverse : List ℕ} {phi psi : ℕ} → forward ≡ x .forward → reverse ≡ x .reverse → phi ≡ x .phi → psi ≡ x .psi
     → record { forward = forward; reverse = reverse; phi = phi; psi = psi } ≡ x
@@ -77,10 +77,10 @@ same-item x f r p q = rw (f, r, p, q)
 module _ (s : List ℕ) (at k r : ℕ) (ek : k ≡ getD s (at + 4) 0) (er : r ≡ getD s (at + 5) 0) where
   module _ {b : Book} {i : ℕ} (h : ItemStands s b i at) where
     abbrev x : Item
-    x = item (b .items) i
+    x = item (itemsOf b) i
 
     abbrev t : List ℕ
-    t = framed (map itemRec (drop (i + 1) (b .items)))
+    t = framed (map itemRec (drop (i + 1) (itemsOf b)))
 
     hk : k ≡ length (x .forward)
     hk = ek ∙ k-at s at x t (stands h)
@@ -143,7 +143,7 @@ module _ (s : List ℕ) (at k r : ℕ) (ek : k ≡ getD s (at + 4) 0) (er : r �
       record { k-byte = lk; r-byte = lr; past = λ l. omega arith; held = held; inside = (omega arith, omega arith); parts = parts; next = next }
 
 -- the item that stands there is the book's
-pub item-is : {s : List ℕ} {b : Book} {i at : ℕ} → ItemStands s b i at → itemIn s at ≡ item (b .items) i
+pub item-is : {s : List ℕ} {b : Book} {i at : ℕ} → ItemStands s b i at → itemIn s at ≡ item (itemsOf b) i
 unfolding itemIn
 item-is {s} {b} {i} {at} h = whole s at (getD s (at + 4) 0) (getD s (at + 5) 0) refl refl h
 
@@ -174,7 +174,7 @@ read-item {s} {at} {p} c phi psi ep eq =
 
 -- and the items at a book's places are its items
 pub placed-items : {s places : List ℕ} → Placed s places → (b : Book) → AllowedBook b → bytesOf b ≡ s
-    → (i : ℕ) → i < length (b .items) → itemIn s (getD places i 0) ≡ item (b .items) i
+    → (i : ℕ) → i < length (itemsOf b) → itemIn s (getD places i 0) ≡ item (itemsOf b) i
 placed-items p b a e i h = item-is (record { allowed = a; bytes = e; known = h; begins = p .begins b a e i h })
 
 -- ---- past the end

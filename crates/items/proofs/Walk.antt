@@ -13,7 +13,7 @@ use Rattle.reversal.specs.Reversal.{Item}
 use Rattle.reversal.specs.Chains.{absent, item}
 use Rattle.octets.specs.Le.{bytesLe}
 use Rattle.octets.specs.Parts.{le, leAt}
-use Rattle.book.specs.Book.{Move, Book, AllowedBook, Rec, frame, framed, moveRec, itemRec, bytesOf}
+use Rattle.book.specs.Book.{Move, Book, AllowedBook, Rec, frame, framed, moveRec, itemRec, bytesOf, itemsOf}
 use Rattle.octets.proofs.Le.{length-bytesLe}
 use Rattle.book.proofs.Bodies.{first-eight}
 use Rattle.book.proofs.Scanning.{length-frame}
@@ -76,7 +76,7 @@ inside s p x e h = go (decLt p (length s))
 -- ---- to the first item: the moves that are left
 pub record Before (s : List ℕ) (b : Book) (at : ℕ) : Type 0 where
   pub left : List Move
-  pub rest : drop at s ≡ framed (map moveRec left ++ map itemRec (b .items))
+  pub rest : drop at s ≡ framed (map moveRec left ++ map itemRec (itemsOf b))
 
 pub at-moves : {s : List ℕ} {b : Book} {at : ℕ} → MovesBegin s b at → Before s b at
 at-moves {b = b} e = record { left = b .moves; rest = e }
@@ -85,50 +85,50 @@ module _ {s : List ℕ} {b : Book} {at : ℕ} (g : Before s b at) where
   pub next-move : leAt 2 s (at + 2) ≡ 2 → Before s b (at + 14)
   next-move k = go (g .left) (g .rest)
     where
-      go : (left : List Move) → drop at s ≡ framed (map moveRec left ++ map itemRec (b .items)) → Before s b (at + 14)
-      go [] r = absurd (no-move (b .items) s at r k)
-      go (x ∷ xs) r = record { left = xs; rest = past-move s at x (framed (map moveRec xs ++ map itemRec (b .items))) r }
+      go : (left : List Move) → drop at s ≡ framed (map moveRec left ++ map itemRec (itemsOf b)) → Before s b (at + 14)
+      go [] r = absurd (no-move (itemsOf b) s at r k)
+      go (x ∷ xs) r = record { left = xs; rest = past-move s at x (framed (map moveRec xs ++ map itemRec (itemsOf b))) r }
 
   -- no record has room
   pub at-end : length s < at + 4 → Begins s b 0 at
   at-end h = go (g .left) (g .rest)
     where
-      go : (left : List Move) → drop at s ≡ framed (map moveRec left ++ map itemRec (b .items)) → Begins s b 0 at
+      go : (left : List Move) → drop at s ≡ framed (map moveRec left ++ map itemRec (itemsOf b)) → Begins s b 0 at
       go [] r = r
-      go (x ∷ xs) r = absurd (omega (arith, move-inside s at x (framed (map moveRec xs ++ map itemRec (b .items))) r))
+      go (x ∷ xs) r = absurd (omega (arith, move-inside s at x (framed (map moveRec xs ++ map itemRec (itemsOf b))) r))
 
   pub at-first : (leAt 2 s (at + 2) ≡ 2 → ⊥) → Begins s b 0 at
-  at-first k = rw (none-left (g .left) (b .items) s at (g .rest) k) at (g .rest)
+  at-first k = rw (none-left (g .left) (itemsOf b) s at (g .rest) k) at (g .rest)
 
 -- ---- from item to item: item i stands where the walk is
-module _ {s : List ℕ} {b : Book} {i at : ℕ} (a : AllowedBook b) (e : bytesOf b ≡ s) (known : i ≤ length (b .items)) (here : Begins s b i at) where
+module _ {s : List ℕ} {b : Book} {i at : ℕ} (a : AllowedBook b) (e : bytesOf b ≡ s) (known : i ≤ length (itemsOf b)) (here : Begins s b i at) where
   -- where bytes are left there is an item, and where none are there is none
   pub one-more : at < length s → ItemStands s b i at
-  one-more h = record { allowed = a; bytes = e; known = go (decLt i (length (b .items))); begins = here }
+  one-more h = record { allowed = a; bytes = e; known = go (decLt i (length (itemsOf b))); begins = here }
     where
-      go : Dec (i < length (b .items)) → i < length (b .items)
+      go : Dec (i < length (itemsOf b)) → i < length (itemsOf b)
       go (yes l) = l
       go (no l) =
-          let past : length (b .items) ≤ i = omega arith in
-          let none : drop i (b .items) ≡ [] = drop-of-length-le (b .items) past in
+          let past : length (itemsOf b) ≤ i = omega arith in
+          let none : drop i (itemsOf b) ≡ [] = drop-of-length-le (itemsOf b) past in
           let f : length (drop at s) ≡ 0 = ap length here ∙ ap (λ (l : List Item). length (framed (map itemRec l))) none in
           absurd (omega (arith, length-drop at s))
 
-  pub all-passed : length s ≤ at → i ≡ length (b .items)
-  all-passed h = go (decLt i (length (b .items)))
+  pub all-passed : length s ≤ at → i ≡ length (itemsOf b)
+  all-passed h = go (decLt i (length (itemsOf b)))
     where
-      go : Dec (i < length (b .items)) → i ≡ length (b .items)
+      go : Dec (i < length (itemsOf b)) → i ≡ length (itemsOf b)
       go (no l) = omega arith
       go (yes l) =
-          let x = item (b .items) i in
-          let t = framed (map itemRec (drop (suc i) (b .items))) in
+          let x = item (itemsOf b) i in
+          let t = framed (map itemRec (drop (suc i) (itemsOf b))) in
           let f : length (drop at s) ≡ length (frame (itemRec x) ++ t) =
-          ap length (here ∙ ap (λ (l : List Item). framed (map itemRec l)) (drop-cons (b .items) i absent l)) in
+          ap length (here ∙ ap (λ (l : List Item). framed (map itemRec l)) (drop-cons (itemsOf b) i absent l)) in
           absurd (omega (arith, length-drop at s, length-append (frame (itemRec x)) t, length-frame (itemRec x)))
 
 -- ---- the places of the items passed: i of them, and the next record at `at`
 pub record Passed (s : List ℕ) (b : Book) (places : List ℕ) (i at : ℕ) : Type 0 where
-  pub known : i ≤ length (b .items)
+  pub known : i ≤ length (itemsOf b)
   pub here : Begins s b i at
   pub before : (j : ℕ) → j < i → Begins s b j (getD places j 0)
 
@@ -151,8 +151,8 @@ module _ {s : List ℕ} {b : Book} {places : List ℕ} {i at : ℕ} (a : Allowed
           ap (λ (y : ℕ). drop y s) (getD-set-other places i j at 0 n) ∙ w .before j (omega arith)
 
   -- the end of the book, or 64 items
-  pub ends-passed : length s ≤ at → (j : ℕ) → j < length (b .items) → Begins s b j (getD places j 0)
+  pub ends-passed : length s ≤ at → (j : ℕ) → j < length (itemsOf b) → Begins s b j (getD places j 0)
   ends-passed h j k = w .before j (omega (arith, all-passed a e (w .known) (w .here) h))
 
-  pub most-passed : 64 ≤ i → (j : ℕ) → j < length (b .items) → Begins s b j (getD places j 0)
+  pub most-passed : 64 ≤ i → (j : ℕ) → j < length (itemsOf b) → Begins s b j (getD places j 0)
   most-passed h j k = w .before j (omega (arith, a .few))

@@ -11,7 +11,7 @@ use Rattle.base.proofs.Parts.{each-map}
 use Rattle.reversal.specs.Reversal.{Item}
 use Rattle.octets.specs.Le.{bytesLe}
 use Rattle.octets.specs.Parts.{le, leAt}
-use Rattle.book.specs.Book.{Move, Book, AllowedBook, frame, framed, twoBytes, weightsRec, allOne, weightsRecs, moveRec, itemRec, bytesOf}
+use Rattle.book.specs.Book.{Move, Book, AllowedBook, frame, framed, twoBytes, weightsRec, allOne, weightsRecs, moveRec, itemRec, bytesOf, itemsOf}
 use Rattle.book.proofs.Bodies.{weights-length}
 use Rattle.book.proofs.Weights.{ones-are, none-of-ones, one-of-others}
 use Rattle.book.proofs.Scanning.{length-frame}
@@ -41,14 +41,14 @@ not-five (x ∷ xs) ys s at e k = omega (arith, kind-at s at (moveRec x) (framed
 -- ---- what stands after the device
 module _ (s : List ℕ) (b : Book) (a : AllowedBook b) (e : bytesOf b ≡ s) where
   abbrev rest : List ℕ
-  rest = framed (map moveRec (b .moves) ++ map itemRec (b .items))
+  rest = framed (map moveRec (b .moves) ++ map itemRec (itemsOf b))
 
   -- nothing but moves and items, and every weight is 1; or the record of weights
   data After : Type 0 where
     none : allOne (b .weights) ≡ true → drop 6 s ≡ rest → After
     some : drop 6 s ≡ frame (weightsRec (b .weights)) ++ rest → After
 
-  after-device : drop 6 s ≡ framed (weightsRecs (b .weights) ++ (map moveRec (b .moves) ++ map itemRec (b .items)))
+  after-device : drop 6 s ≡ framed (weightsRecs (b .weights) ++ (map moveRec (b .moves) ++ map itemRec (itemsOf b)))
   unfolding frame bytesLe
   after-device = rw (← e)
 
@@ -75,7 +75,7 @@ module _ (s : List ℕ) (b : Book) (a : AllowedBook b) (e : bytesOf b ≡ s) whe
     weighted = go after
       where
         go : After → drop 6 s ≡ frame (weightsRec (b .weights)) ++ rest
-        go (none h r) = absurd (not-five (b .moves) (b .items) s 6 r k)
+        go (none h r) = absurd (not-five (b .moves) (itemsOf b) s 6 r k)
         go (some r) = r
 
     size-at : leAt 2 s 6 ≡ 2 * b .m

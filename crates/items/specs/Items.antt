@@ -6,7 +6,7 @@ use lib.ListN.{length, getD, take, drop}
 use Rattle.reversal.specs.Reversal.{Item}
 use Rattle.reversal.specs.Chains.{item}
 use Rattle.octets.specs.Parts.{leAt, piece}
-use Rattle.book.specs.Book.{Book, AllowedBook, bytesOf, framed, moveRec, itemRec}
+use Rattle.book.specs.Book.{Book, AllowedBook, bytesOf, framed, moveRec, itemRec, itemsOf}
 use Rattle.items.specs.declared.Place.{Place}
 use Rattle.items.specs.declared.Parts.{Parts}
 
@@ -16,7 +16,7 @@ pub record WeightAt (s : List ℕ) (command r : ℕ) : Type 0 where
 
 -- the records of b's moves and items are what stands in s from `at` on
 abbrev pub MovesBegin : List ℕ → Book → ℕ → Type 0
-MovesBegin s b at = drop at s ≡ framed (map moveRec (b .moves) ++ map itemRec (b .items))
+MovesBegin s b at = drop at s ≡ framed (map moveRec (b .moves) ++ map itemRec (itemsOf b))
 
 -- the contract of `first_move`
 pub record FirstMove (s : List ℕ) (r : ℕ) : Type 0 where
@@ -24,13 +24,13 @@ pub record FirstMove (s : List ℕ) (r : ℕ) : Type 0 where
 
 -- the records of b's items from item i on are what stands in s from `at` on
 abbrev pub Begins : List ℕ → Book → ℕ → ℕ → Type 0
-Begins s b i at = drop at s ≡ framed (map itemRec (drop i (b .items)))
+Begins s b i at = drop at s ≡ framed (map itemRec (drop i (itemsOf b)))
 
 -- s is the bytes of the allowed book b, and the record of its item i begins at `at`
 pub record ItemStands (s : List ℕ) (b : Book) (i at : ℕ) : Type 0 where
   pub allowed : AllowedBook b
   pub bytes : bytesOf b ≡ s
-  pub known : i < length (b .items)
+  pub known : i < length (itemsOf b)
   pub begins : Begins s b i at
 
 -- ---- the item at a place, for any bytes
@@ -74,7 +74,7 @@ pub record ItemAt (s : List ℕ) (at : ℕ) (p : Place) : Type 0 where
   pub k-byte : p .k < 256
   pub r-byte : p .r < 256
   pub past : at < length s → at < p .next
-  pub fields : {b : Book} {i : ℕ} → ItemStands s b i at → Fields s p (item (b .items) i)
+  pub fields : {b : Book} {i : ℕ} → ItemStands s b i at → Fields s p (item (itemsOf b) i)
   pub next : {b : Book} {i : ℕ} → ItemStands s b i at → Begins s b (i + 1) (p .next)
 
 -- where the parts of item x stand
@@ -93,7 +93,7 @@ pub record PartsAt (s : List ℕ) (at : ℕ) (p : Parts) : Type 0 where
   pub past : at < length s → at < p .next
   pub held : heldIn s p ≡ itemIn s at
   pub inside : (p .forward + p .k ≤ p .next) × (p .reverse + p .r ≤ p .next)
-  pub parts : {b : Book} {i : ℕ} → ItemStands s b i at → PartsOf s p (item (b .items) i)
+  pub parts : {b : Book} {i : ℕ} → ItemStands s b i at → PartsOf s p (item (itemsOf b) i)
   pub next : {b : Book} {i : ℕ} → ItemStands s b i at → Begins s b (i + 1) (p .next)
 
 -- the contract of `first_item`
@@ -103,4 +103,4 @@ pub record FirstItem (s : List ℕ) (r : ℕ) : Type 0 where
 -- the contract of `places`
 pub record Placed (s places : List ℕ) : Type 0 where
   pub size : length places ≡ 64
-  pub begins : (b : Book) → AllowedBook b → bytesOf b ≡ s → (i : ℕ) → i < length (b .items) → Begins s b i (getD places i 0)
+  pub begins : (b : Book) → AllowedBook b → bytesOf b ≡ s → (i : ℕ) → i < length (itemsOf b) → Begins s b i (getD places i 0)

@@ -13,7 +13,7 @@ use Rattle.base.proofs.Parts.{each-map}
 use Rattle.reversal.specs.Reversal.{Item}
 use Rattle.reversal.specs.Runs.{Run, last}
 use Rattle.reversal.specs.Chains.{Leg, legsOf}
-use Rattle.book.specs.Book.{Book}
+use Rattle.book.specs.Book.{Book, itemsFor}
 use Rattle.assembly.specs.Lent.{inBytes, AllLent}
 use Rattle.assembly.specs.LegsRead.{legsRead}
 use Rattle.assembly.specs.Assembles.{Assembles}
@@ -48,18 +48,18 @@ module _ {book run : List ℕ} {l : AllLent ℕ} {page : List ℕ} {r : Paged} {
 
     module _ (z : r .assembly .code ≡ 0) (b : Book) (u : Run) (g : Given book run b u) (p : Planned inBytes b u (r .assembly) (l′ .room)) where
       abbrev ls : List Leg
-      ls = legsOf (b .items) (last u) (p .items)
+      ls = legsOf (itemsFor b) (last u) (p .items)
 
-      known : Each (λ l. reverseIn (l′ .read .slots) (l .number) ≡ reverseOf (b .items) (l .number)) ls
+      known : Each (λ l. reverseIn (l′ .read .slots) (l .number) ≡ reverseOf (itemsFor b) (l .number)) ls
       known =
           each-map (λ l h. ap (λ (x : Item). x .reverse) (slots-hold a z b (g .accepted) (l .number) h)) ls
           (numbers-known b (g .accepted .allowed) u (g .allowed) (p .items) (last u) (p .chain))
 
-      page-same : pageIn (l′ .read .slots) (l′ .room .legs) (r .assembly .legs) ≡ pageOf (b .items) ls
+      page-same : pageIn (l′ .read .slots) (l′ .room .legs) (r .assembly .legs) ≡ pageOf (itemsFor b) ls
       page-same =
           ap (linesFrom (reverseIn (l′ .read .slots)) 1)
-          (legs-read ls (l′ .room .legs) (r .assembly .legs) (length-legs (b .items) (p .items) (last u) ∙ sym (p .legs-counted)) (p .legs-written))
-          ∙ lines-same (reverseIn (l′ .read .slots)) (reverseOf (b .items)) ls 1 known
+          (legs-read ls (l′ .room .legs) (r .assembly .legs) (length-legs (itemsFor b) (p .items) (last u) ∙ sym (p .legs-counted)) (p .legs-written))
+          ∙ lines-same (reverseIn (l′ .read .slots)) (reverseOf (itemsFor b)) ls 1 known
 
       given-page : Laid book r (l′ .room .legs) page page′
       given-page =
@@ -69,7 +69,7 @@ module _ {book run : List ℕ} {l : AllLent ℕ} {page : List ℕ} {r : Paged} {
             legs = ls;
             legs-are = p .legs-written;
             written =
-                stored (pageOf (b .items) ls) page page′ (omega (arith, long .0, chain-short b (g .accepted .allowed) u (g .allowed) (p .items) (p .chain)))
+                stored (pageOf (itemsFor b) ls) page page′ (omega (arith, long .0, chain-short b (g .accepted .allowed) u (g .allowed) (p .items) (p .chain)))
                 (c .page-is long ∙ ap (sets page 0) page-same);
             length-is = c .length-is long ∙ ap length page-same;
           }

@@ -10,7 +10,7 @@ use Rattle.base.proofs.Parts.{each-map}
 use Rattle.reversal.specs.Reversal.{Item, AllowedItem}
 use Rattle.reversal.specs.Runs.{Run, AllowedRun, last}
 use Rattle.reversal.specs.Chains.{Leg, absent, item, lower, Chain, planOf, legsOf}
-use Rattle.book.specs.Book.{Book, deviceOf, AllowedBook}
+use Rattle.book.specs.Book.{Book, deviceOf, AllowedBook, itemsFor}
 use Rattle.book.proofs.Unique.{one-book}
 use Rattle.checker.specs.Checks.{AcceptedBook}
 use Rattle.assembly.specs.Lent.{legsBytes}
@@ -29,7 +29,7 @@ legs-plan items (a ∷ xs) j = ap (λ (cs : List ℕ). item items a .reverse ++ 
 
 -- what is laid out is fixed by the book's bytes and those of the legs
 pub one-text : {book : List ℕ} {r : Paged} {legs page page′ : List ℕ} (d : Laid book r legs page page′) {b : Book} → AcceptedBook book b
-    → (ls : List Leg) → take (3 * r .assembly .legs) legs ≡ legsBytes ls → pageOf (d .the-book .items) (d .legs) ≡ pageOf (b .items) ls
+    → (ls : List Leg) → take (3 * r .assembly .legs) legs ≡ legsBytes ls → pageOf (itemsFor (d .the-book)) (d .legs) ≡ pageOf (itemsFor b) ls
 one-text d {b} ok ls e =
     ap₂ (λ (x : Book) (y : List Leg). pageOf (x .items) y)
     (one-book (d .the-book) b (d .accepted .allowed) (ok .allowed) (d .accepted .bytes ∙ sym (ok .bytes)))
@@ -37,7 +37,7 @@ one-text d {b} ok ls e =
 
 module _ (b : Book) (ok : AllowedBook b) (u : Run) (fine : AllowedRun (deviceOf b) u) where
   abbrev items : List Item
-  items = b .items
+  items = itemsFor b
 
   -- each has the number of an item
   pub numbers-known : (xs : List ℕ) (j : ℕ) → Chain (deviceOf b) u items j xs → Each (λ l. l .number < length items) (legsOf items j xs)

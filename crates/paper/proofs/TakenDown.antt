@@ -7,7 +7,7 @@ use lib.ListN.{length, take}
 use Rattle.base.specs.Lists.{Each, Bytes}
 use Rattle.reversal.specs.Runs.{Run, last}
 use Rattle.reversal.specs.Chains.{Leg, legsOf}
-use Rattle.book.specs.Book.{Book}
+use Rattle.book.specs.Book.{Book, itemsFor}
 use Rattle.assembly.specs.Lent.{inBytes, AllLent}
 use Rattle.assembly.specs.Demand.{Given, Planned}
 use Rattle.assembly.proofs.Exactly.{even-bytes, length-legs}
@@ -39,25 +39,25 @@ nothing r l′ page′ n c g =
 module _ (book run page : List ℕ) (r : Paged) (l′ : AllLent ℕ) (page′ : List ℕ) (b : Book) (u : Run) (g : Given book run b u)
     (p : Planned inBytes b u (r .assembly) (l′ .room)) (d : Laid book r (l′ .room .legs) page page′) where
   abbrev ls : List Leg
-  ls = legsOf (b .items) (last u) (p .items)
+  ls = legsOf (itemsFor b) (last u) (p .items)
 
-  back : PageBack (reverseOf (b .items)) 1 ls
+  back : PageBack (reverseOf (itemsFor b)) 1 ls
   back = chain-back b (g .accepted .allowed) u (g .allowed) (p .items) (p .chain)
 
-  same-text : pageOf (d .the-book .items) (d .legs) ≡ pageOf (b .items) ls
+  same-text : pageOf (itemsFor (d .the-book)) (d .legs) ≡ pageOf (itemsFor b) ls
   same-text = one-text d (g .accepted) ls (p .legs-written)
 
-  chain-text : take (r .length) page′ ≡ pageOf (b .items) ls
+  chain-text : take (r .length) page′ ≡ pageOf (itemsFor b) ls
   chain-text = ap (λ (k : ℕ). take k page′) (d .length-is) ∙ d .written .front ∙ same-text
 
   count : length ls ≡ r .assembly .legs
-  count = length-legs (b .items) (p .items) (last u) ∙ sym (p .legs-counted)
+  count = length-legs (itemsFor b) (p .items) (last u) ∙ sym (p .legs-counted)
 
   all-taken : TakenDown r l′ page′
   all-taken =
       record {
         commands =
-            ap (λ (t : List ℕ). down commandsOn (linesIn t)) chain-text ∙ back .commands ∙ legs-plan (b .items) (p .items) (last u) ∙ sym (p .plan-written);
+            ap (λ (t : List ℕ). down commandsOn (linesIn t)) chain-text ∙ back .commands ∙ legs-plan (itemsFor b) (p .items) (last u) ∙ sym (p .plan-written);
         legs = ap (λ (t : List ℕ). down legOn (linesIn t)) chain-text ∙ back .legs ∙ sym (p .legs-written);
         numbered = ap (λ (t : List ℕ). down (onLine 0) (linesIn t)) chain-text ∙ back .numbered ∙ ap (upFrom 1) count;
         counted =

@@ -7,7 +7,7 @@ use Rattle.base.specs.Lists.{Each, Written}
 use Rattle.base.specs.Sizes.{Sized, _for_, LongEnough}
 use Rattle.reversal.specs.Runs.{Run, last}
 use Rattle.reversal.specs.Chains.{Leg, legsOf}
-use Rattle.book.specs.Book.{Book}
+use Rattle.book.specs.Book.{Book, itemsFor}
 use Rattle.checker.specs.Checks.{AcceptedBook}
 use Rattle.assembly.specs.Lent.{legsBytes, inBytes, AllLent}
 use Rattle.assembly.specs.Assembles.{refusal, Assembles}
@@ -22,8 +22,8 @@ pub record Laid (book : List ℕ) (r : Paged) (legs′ page page′ : List ℕ) 
   pub accepted : AcceptedBook book the-book
   pub legs : List Leg
   pub legs-are : take (3 * r .assembly .legs) legs′ ≡ legsBytes legs
-  pub written : Written (pageOf (the-book .items) legs) page page′
-  pub length-is : r .length ≡ length (pageOf (the-book .items) legs)
+  pub written : Written (pageOf (itemsFor the-book) legs) page page′
+  pub length-is : r .length ≡ length (pageOf (itemsFor the-book) legs)
 
 -- "a page buffer of 1,312 bytes"
 abbrev pub pageSizes : List ℕ → List Sized
@@ -45,7 +45,7 @@ pub record PageDemand (book run : List ℕ) (l : AllLent ℕ) (page : List ℕ) 
   pub enough : LongEnough (pageSizes page) → Demand inBytes book run l (r .assembly) l′
   pub short : (LongEnough (pageSizes page) → ⊥) → r .assembly .code ≡ 1
   pub chain-laid : r .assembly .code ≡ 0 → (b : Book) (u : Run) → Given book run b u → (p : Planned inBytes b u (r .assembly) (l′ .room))
-      → take (r .length) page′ ≡ pageOf (b .items) (legsOf (b .items) (last u) (p .items))
+      → take (r .length) page′ ≡ pageOf (itemsFor b) (legsOf (itemsFor b) (last u) (p .items))
 
 -- k, k + 1, .. : n numbers
 unfoldable pub upFrom : ℕ → ℕ → List ℕ

@@ -10,7 +10,7 @@ use Rattle.base.specs.Sizes.{LongEnough}
 use Rattle.base.specs.Tests.{pick, both}
 use Rattle.base.specs.Compare.{less, same}
 use Rattle.octets.specs.Le.{bytesLe}
-use Rattle.book.specs.Book.{Book, AllowedBook, bytesOf, outcomeOf}
+use Rattle.book.specs.Book.{Book, AllowedBook, bytesOf, outcomeOf, itemsFor}
 use Rattle.book.specs.Lent.{Lent, sizes, slotsBytes}
 use Rattle.book.specs.Limits.{allBelow}
 use Rattle.book.specs.Example.{bookQ, bytesQ, bookDear, bytesDear, firstSlots}
@@ -44,7 +44,7 @@ read-Q = read-as bytes-Q allowed-bookQ bytes-bookQ
 read-Dear : {l : Lent} {r : Reading} {l′ : Lent} → Reads bytesDear l r l′ → LongEnough (sizes l) → (r ≡ done bookDear) × Filled bytesDear l bookDear l′
 read-Dear = read-as bytes-Dear allowed-bookDear bytes-bookDear
 
-slots-Q : take 68 (slotsBytes (bookQ .items)) ≡ firstSlots
+slots-Q : take 68 (slotsBytes (itemsFor bookQ)) ≡ firstSlots
 unfolding slotsBytes bytesLe
 slots-Q = refl
 

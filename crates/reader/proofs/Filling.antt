@@ -14,7 +14,7 @@ use Rattle.reversal.specs.Reversal.{Item}
 use Rattle.reversal.specs.Chains.{absent, item}
 use Rattle.book.specs.declared.State.{State}
 use Rattle.book.specs.declared.Scan.the-variants.{Read, Fault}
-use Rattle.book.specs.Book.{Move, Book, AllowedMove, AllowedBook, deviceOf, frame, framed, moveRec, itemRec, recordsOf, bytesOf}
+use Rattle.book.specs.Book.{Move, Book, AllowedMove, AllowedBook, deviceOf, frame, framed, moveRec, itemRec, recordsOf, bytesOf, itemsOf, itemsFor}
 use Rattle.book.specs.Parse.{Row, cutAfter, cut, weightsIn, movesIn, itemsIn, parse, scan, atStart}
 use Rattle.book.specs.Parse.Row.{End}
 use Rattle.book.specs.Parse.Parsed.{Ok, Refused}
@@ -45,7 +45,7 @@ module _ (s : List ℕ) (b : Book) (e : bytesOf b ≡ s) where
 pub record Entering (s : List ℕ) (b : Book) (whole : List ℕ) (at : ℕ) (table : List ℕ) : Type 0 where
   pub left : List Move
   pub allowed : Each (AllowedMove (b .n) (b .m)) left
-  pub rest : drop at s ≡ framed (map moveRec left ++ map itemRec (b .items))
+  pub rest : drop at s ≡ framed (map moveRec left ++ map itemRec (itemsOf b))
   pub gives : filled (b .m) left table ≡ whole
 
 pub entering : {s : List ℕ} {b : Book} {at : ℕ} (t : List ℕ) → AllowedBook b → MovesBegin s b at → Entering s b (filled (b .m) (b .moves) t) at t
@@ -59,11 +59,11 @@ module _ {s : List ℕ} {b : Book} {whole : List ℕ} {at : ℕ} {table : List �
   unfolding moveStored filled
   entered m table′ h k e = go (g .left) (g .allowed) (g .rest) (g .gives)
     where
-      go : (left : List Move) → Each (AllowedMove (b .n) (b .m)) left → drop at s ≡ framed (map moveRec left ++ map itemRec (b .items))
+      go : (left : List Move) → Each (AllowedMove (b .n) (b .m)) left → drop at s ≡ framed (map moveRec left ++ map itemRec (itemsOf b))
           → filled (b .m) left table ≡ whole → Entering s b whole (at + 14) table′
-      go [] al r w = absurd (no-move (b .items) s at r k)
+      go [] al r w = absurd (no-move (itemsOf b) s at r k)
       go (x ∷ xs) al r w =
-          let t = framed (map moveRec xs ++ map itemRec (b .items)) in
+          let t = framed (map moveRec xs ++ map itemRec (itemsOf b)) in
           record {
             left = xs;
             allowed = al .1;
@@ -78,14 +78,14 @@ AllEntered s b whole at table = (g : Entering s b whole at table) × (g .left �
 
 module _ {s : List ℕ} {b : Book} {whole : List ℕ} {at : ℕ} {table : List ℕ} (g : Entering s b whole at table) where
   pub other-stands : (leAt 2 s (at + 2) ≡ 2 → ⊥) → AllEntered s b whole at table
-  other-stands k = (g, none-left (g .left) (b .items) s at (g .rest) k)
+  other-stands k = (g, none-left (g .left) (itemsOf b) s at (g .rest) k)
 
   pub too-few : length s < at + 14 → AllEntered s b whole at table
   too-few h = (g, go (g .left) (g .rest))
     where
-      go : (left : List Move) → drop at s ≡ framed (map moveRec left ++ map itemRec (b .items)) → left ≡ []
+      go : (left : List Move) → drop at s ≡ framed (map moveRec left ++ map itemRec (itemsOf b)) → left ≡ []
       go [] r = refl
-      go (x ∷ xs) r = absurd (omega (arith, move-inside s at x (framed (map moveRec xs ++ map itemRec (b .items))) r))
+      go (x ∷ xs) r = absurd (omega (arith, move-inside s at x (framed (map moveRec xs ++ map itemRec (itemsOf b))) r))
 
 pub table-filled : (s old table₀ table : List ℕ) (n m at : ℕ) → n ≡ getD s 4 0 → m ≡ getD s 5 0 → table₀ ≡ zeroed (n * m) old
     → ((b : Book) → AllowedBook b → bytesOf b ≡ s → AllEntered s b (filled (b .m) (b .moves) table₀) at table) → TableFilled s old table at
@@ -98,9 +98,9 @@ table-filled s old table₀ table n m at p q z f =
 
 -- ---- the pass over the items
 pub record Slotting (s : List ℕ) (b : Book) (whole : List ℕ) (at i : ℕ) (slots : List ℕ) : Type 0 where
-  pub known : i ≤ length (b .items)
+  pub known : i ≤ length (itemsFor b)
   pub here : Begins s b i at
-  pub gives : sets slots (34 * i) (slotsBytes (drop i (b .items))) ≡ whole
+  pub gives : sets slots (34 * i) (slotsBytes (drop i (itemsFor b))) ≡ whole
 
 pub slotting : (s : List ℕ) (b : Book) (first : ℕ) (slots : List ℕ) → Begins s b 0 first → Slotting s b (slotsOf b slots) first 0 slots
 slotting s b first slots q = record { known = omega arith; here = q; gives = refl }
@@ -109,14 +109,14 @@ module _ {s : List ℕ} {b : Book} {whole : List ℕ} {at i : ℕ} {slots : List
   pub stands : at < length s → ItemStands s b i at
   stands h = one-more a e (g .known) (g .here) h
 
-  pub slotted : (h : at < length s) (next : ℕ) → Begins s b (i + 1) next → (slots′ : List ℕ) → slots′ ≡ sets slots (34 * i) (slotOf (item (b .items) i))
+  pub slotted : (h : at < length s) (next : ℕ) → Begins s b (i + 1) next → (slots′ : List ℕ) → slots′ ≡ sets slots (34 * i) (slotOf (item (itemsFor b) i))
       → Slotting s b whole next (i + 1) slots′
   unfolding slotsBytes
   slotted h next q slots′ e =
-      let x = item (b .items) i in
+      let x = item (itemsFor b) i in
       let l = stands h .known in
-      let rest = slotsBytes (drop (i + 1) (b .items)) in
-      let cons : drop i (b .items) ≡ x ∷ drop (i + 1) (b .items) = rw add-one (drop-cons (b .items) i absent l) in
+      let rest = slotsBytes (drop (i + 1) (itemsFor b)) in
+      let cons : drop i (itemsFor b) ≡ x ∷ drop (i + 1) (itemsFor b) = rw add-one (drop-cons (itemsFor b) i absent l) in
       record {
         known = omega arith;
         here = q;
@@ -129,23 +129,23 @@ module _ {s : List ℕ} {b : Book} {whole : List ℕ} {at i : ℕ} {slots : List
 
   -- in a slot that is lent by itself
   pub part-slotted : (h : at < length s) (k : ℕ) (part : List ℕ) → k ≡ 34 → 34 * i + k ≤ length slots
-      → part ≡ sets (take k (drop (34 * i) slots)) 0 (slotOf (item (b .items) i))
-      → take (34 * i) slots ++ (part ++ drop k (drop (34 * i) slots)) ≡ sets slots (34 * i) (slotOf (item (b .items) i))
+      → part ≡ sets (take k (drop (34 * i) slots)) 0 (slotOf (item (itemsFor b) i))
+      → take (34 * i) slots ++ (part ++ drop k (drop (34 * i) slots)) ≡ sets slots (34 * i) (slotOf (item (itemsFor b) i))
   part-slotted h k part n l p =
-      sets-part slots part (34 * i) k (slotOf (item (b .items) i)) l (omega (arith, length-slot (deviceOf b) (item (b .items) i) (allowed (stands h)))) p
+      sets-part slots part (34 * i) k (slotOf (item (itemsFor b) i)) l (omega (arith, length-slot (deviceOf b) (item (itemsFor b) i) (allowed (stands h)))) p
 
   -- in a slot that is not there whole: no later one is there
-  pub last-slotted : (h : at < length s) (next : ℕ) → Begins s b (i + 1) next → (slots′ : List ℕ) → slots′ ≡ sets slots (34 * i) (slotOf (item (b .items) i))
+  pub last-slotted : (h : at < length s) (next : ℕ) → Begins s b (i + 1) next → (slots′ : List ℕ) → slots′ ≡ sets slots (34 * i) (slotOf (item (itemsFor b) i))
       → length slots < 34 * i + 34 → slots′ ≡ whole
   last-slotted h next q slots′ e l =
-      let n = length-sets slots (34 * i) (slotOf (item (b .items) i)) in
-      sym (sets-past slots′ (34 * (i + 1)) (slotsBytes (drop (i + 1) (b .items))) (omega (arith, ap length e, n))) ∙ slotted h next q slots′ e .gives
+      let n = length-sets slots (34 * i) (slotOf (item (itemsFor b) i)) in
+      sym (sets-past slots′ (34 * (i + 1)) (slotsBytes (drop (i + 1) (itemsFor b))) (omega (arith, ap length e, n))) ∙ slotted h next q slots′ e .gives
 
   pub all-slotted : length s ≤ at → slots ≡ whole
   unfolding slotsBytes
   all-slotted h =
-      let past : length (b .items) ≤ i = omega (arith, all-passed a e (g .known) (g .here) h) in
-      let none : drop i (b .items) ≡ [] = drop-of-length-le (b .items) past in
+      let past : length (itemsFor b) ≤ i = omega (arith, all-passed a e (g .known) (g .here) h) in
+      let none : drop i (itemsFor b) ≡ [] = drop-of-length-le (itemsFor b) past in
       rw none at (g .gives)
 
 -- ---- the pass over the weights
@@ -198,7 +198,7 @@ found s st b e =
         let row : cut (bytesOf x) ≡ onto (recordsOf x) End = ap cut (sym (append-nil (bytesOf x))) ∙ cut-book x [] a in
         ap (λ (r : Row). scan r 0 atStart) (sym (ap cut same) ∙ row) ∙ scan-whole x a
 
-    count-is : (x : Book) → Read st ≡ Read (stateOf x) → st .items ≡ length (x .items)
+    count-is : (x : Book) → Read st ≡ Read (stateOf x) → st .items ≡ length (itemsFor x)
     count-is x q = let y : st ≡ stateOf x = cc in ap (λ (z : State). z .items) y
 
 -- a book that is refused

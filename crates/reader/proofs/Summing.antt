@@ -26,7 +26,7 @@ use Rattle.reversal.proofs.Sizes.{larger-is}
 use Rattle.octets.specs.Le.{bytesLe}
 use Rattle.octets.specs.Parts.{leAt}
 use Rattle.octets.proofs.Le.{le-bytesLe}
-use Rattle.book.specs.Book.{Move, Book, AllowedBook, Rec, frame, framed, deviceRec, weightsRecs, moveRec, itemRec, recordsOf, bytesOf}
+use Rattle.book.specs.Book.{Move, Book, AllowedBook, Rec, frame, framed, deviceRec, weightsRecs, moveRec, itemRec, recordsOf, bytesOf, itemsOf}
 use Rattle.book.specs.Refusal.{Small}
 use Rattle.book.specs.declared.State.{State}
 use Rattle.book.specs.declared.Scan.{Scan}
@@ -82,10 +82,10 @@ module _ (s : List ℕ) (at : ℕ) (t : Tally) (h : Within t) where
   no-further l = record { within = h; other = λ _. refl; item-is = λ k q. absurd (omega (arith, q .known, q .allowed .few)) }
 
   module _ (p : Parts) (c : PartsAt s at p) (psi : ℕ) (is : psi ≡ heldIn s p .psi) (fits : psi < 2 ^ 64) where
-    units-is : {b : Book} → (q : ItemStands s b (t .count) at) → ones psi * (p .k + p .r) ≡ itemUnits (b .n) (item (b .items) (t .count))
+    units-is : {b : Book} → (q : ItemStands s b (t .count) at) → ones psi * (p .k + p .r) ≡ itemUnits (b .n) (item (itemsOf b) (t .count))
     unfolding clearFrom
     units-is {b} q =
-        let x = item (b .items) (t .count) in
+        let x = item (itemsOf b) (t .count) in
         let f = c .parts q in
         let e : psi ≡ x .psi = is ∙ ap (λ (y : Item). y .psi) (c .held ∙ item-is q) in
         let l = ltb→lt (x .psi) (2 ^ b .n) (clear↔ (b .n) (x .psi) .1 (allowed q .psi-states)) in
@@ -112,16 +112,16 @@ NoItem r = r .kind ≡ 3 → ⊥
 
 -- the items that are left
 abbrev itemsLeft : Book → Tally → List Item
-itemsLeft b t = drop (t .count) (b .items)
+itemsLeft b t = drop (t .count) (itemsOf b)
 
 pub record Summing (s : List ℕ) (b : Book) (at : ℕ) (t : Tally) : Type 0 where
   pub left : List Rec
   pub others : Each NoItem left
   pub small : AllSmall (left ++ map itemRec (itemsLeft b t))
   pub rest : drop at s ≡ framed (left ++ map itemRec (itemsLeft b t))
-  pub known : t .count ≤ length (b .items)
-  pub units-left : t .units + sumUnits (b .n) (itemsLeft b t) ≡ sumUnits (b .n) (b .items)
-  pub longest-left : largestFrom (t .longest) (itemsLeft b t) ≡ largestFrom 0 (b .items)
+  pub known : t .count ≤ length (itemsOf b)
+  pub units-left : t .units + sumUnits (b .n) (itemsLeft b t) ≡ sumUnits (b .n) (itemsOf b)
+  pub longest-left : largestFrom (t .longest) (itemsLeft b t) ≡ largestFrom 0 (itemsOf b)
 
 pub summing : (s : List ℕ) (b : Book) → AllowedBook b → bytesOf b ≡ s → Summing s b 0 (record { count = 0; units = 0; longest = 0 })
 summing s b a e =
@@ -131,7 +131,7 @@ summing s b a e =
       small = subst AllSmall all (small-records b a);
       rest = sym e ∙ ap framed all;
       known = omega arith;
-      units-left = zero-add (sumUnits (b .n) (b .items));
+      units-left = zero-add (sumUnits (b .n) (itemsOf b));
       longest-left = refl;
     }
   where
@@ -142,7 +142,7 @@ summing s b a e =
     M = map moveRec (b .moves)
 
     I : List Rec
-    I = map itemRec (b .items)
+    I = map itemRec (itemsOf b)
 
     all : recordsOf b ≡ deviceRec (b .n) (b .m) ∷ ((W ++ M) ++ I)
     all = ap (λ (rs : List Rec). deviceRec (b .n) (b .m) ∷ rs) (sym (append-assoc W M I))
@@ -193,22 +193,22 @@ module _ {s : List ℕ} {b : Book} {at : ℕ} {t : Tally} (g : Summing s b at t)
     item-stands : ItemStands s b (t .count) at
     item-stands = record { allowed = a; bytes = same; known = one-left (itemsLeft b t) refl begins; begins = begins }
       where
-        one-left : (xs : List Item) → itemsLeft b t ≡ xs → drop at s ≡ framed (map itemRec xs) → t .count < length (b .items)
+        one-left : (xs : List Item) → itemsLeft b t ≡ xs → drop at s ≡ framed (map itemRec xs) → t .count < length (itemsOf b)
         one-left [] e q = absurd (omega (arith, no-kind s at q))
-        one-left (x ∷ xs) e q = omega (arith, length-drop (t .count) (b .items), ap length e)
+        one-left (x ∷ xs) e q = omega (arith, length-drop (t .count) (itemsOf b), ap length e)
 
-    item-passed : (t′ : Tally) → t′ ≡ withItem (b .n) (item (b .items) (t .count)) t → Summing s b (at + 4 + leAt 2 s at) t′
+    item-passed : (t′ : Tally) → t′ ≡ withItem (b .n) (item (itemsOf b) (t .count)) t → Summing s b (at + 4 + leAt 2 s at) t′
     unfolding largestFrom
     item-passed t′ e = subst (λ (z : Tally). Summing s b (at + 4 + leAt 2 s at) z) (sym e) next
       where
         x : Item
-        x = item (b .items) (t .count)
+        x = item (itemsOf b) (t .count)
 
         after : List Item
-        after = drop (t .count + 1) (b .items)
+        after = drop (t .count + 1) (itemsOf b)
 
         cons : itemsLeft b t ≡ x ∷ after
-        cons = rw add-one (drop-cons (b .items) (t .count) absent (item-stands .known))
+        cons = rw add-one (drop-cons (itemsOf b) (t .count) absent (item-stands .known))
 
         small : AllSmall (map itemRec (x ∷ after))
         small =
@@ -243,10 +243,10 @@ module _ {s : List ℕ} {b : Book} {at : ℕ} {t : Tally} (g : Summing s b at t)
         go [] (x ∷ xs) h q = absurd (framed-end (itemRec x) (framed (map itemRec xs)) (h .0) q)
         go (r ∷ rs) xs h q = absurd (framed-end r (framed (rs ++ map itemRec xs)) (h .0) q)
 
-    pub all-units : t .units ≡ sumUnits (b .n) (b .items)
+    pub all-units : t .units ≡ sumUnits (b .n) (itemsOf b)
     all-units = omega (arith, g .units-left, ap (sumUnits (b .n)) none-at-end)
 
-    all-longest : t .longest ≡ largestFrom 0 (b .items)
+    all-longest : t .longest ≡ largestFrom 0 (itemsOf b)
     unfolding largestFrom
     all-longest = sym (ap (largestFrom (t .longest)) none-at-end) ∙ g .longest-left
 

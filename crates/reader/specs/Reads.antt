@@ -5,7 +5,7 @@ use mathlib.Core.List.{List}
 use Prim.Native.Nat.{ℕ}
 use lib.ListN.{length}
 use Rattle.base.specs.Sizes.{LongEnough}
-use Rattle.book.specs.Book.{Book, AllowedBook, bytesOf}
+use Rattle.book.specs.Book.{Book, AllowedBook, bytesOf, itemsFor}
 use Rattle.book.specs.Lent.{Lent, sizes, LentRead}
 use Rattle.book.specs.Refusal.{Refusal}
 use Rattle.reader.specs.declared.Reading.{Reading}
@@ -15,7 +15,7 @@ abbrev pub refusal : ℕ → ℕ → Reading
 refusal code place = record { code = code; place = place; n = 0; m = 0; items = 0 }
 
 abbrev pub done : Book → Reading
-done b = record { code = 0; place = 0; n = b .n; m = b .m; items = length (b .items) }
+done b = record { code = 0; place = 0; n = b .n; m = b .m; items = length (itemsFor b) }
 
 -- b is the book in the bytes, and the buffers hold it
 pub record Filled (book : List ℕ) (l : Lent) (b : Book) (l′ : Lent) : Type 0 where

@@ -9,7 +9,7 @@ use Rattle.reversal.specs.Chains.{item}
 use Rattle.reversal.specs.Units.{itemUnits, sumUnits}
 use Rattle.reversal.specs.Computed.Units.{larger, largestFrom}
 use Rattle.octets.specs.Parts.{leAt}
-use Rattle.book.specs.Book.{Book, AllowedBook, bytesOf}
+use Rattle.book.specs.Book.{Book, AllowedBook, bytesOf, itemsOf}
 use Rattle.book.specs.Parse.{cut, scan, atStart}
 use Rattle.items.specs.Items.{ItemStands}
 use Rattle.reader.specs.declared.units.Tally.{Tally}
@@ -30,12 +30,12 @@ withItem n x t = record { count = t .count + 1; units = t .units + itemUnits n x
 pub record Tallied (s : List ℕ) (at : ℕ) (t r : Tally) : Type 0 where
   pub within : Within r
   pub other : (leAt 2 s (at + 2) ≡ 3 → ⊥) → r ≡ t
-  pub item-is : leAt 2 s (at + 2) ≡ 3 → {b : Book} → ItemStands s b (t .count) at → r ≡ withItem (b .n) (item (b .items) (t .count)) t
+  pub item-is : leAt 2 s (at + 2) ≡ 3 → {b : Book} → ItemStands s b (t .count) at → r ≡ withItem (b .n) (item (itemsOf b) (t .count)) t
 
 -- the contract of `sum_up`
 pub record SummedUp (s : List ℕ) (r : Sums) : Type 0 where
   pub seen-is : r .seen ≡ scan (cut s) 0 atStart
   pub seen-bounded : ScanBounded (r .seen)
   pub longest-high : r .longest < 256
-  pub units-are : (b : Book) → AllowedBook b → bytesOf b ≡ s → r .units ≡ sumUnits (b .n) (b .items)
-  pub longest-is : (b : Book) → AllowedBook b → bytesOf b ≡ s → r .longest ≡ largestFrom 0 (b .items)
+  pub units-are : (b : Book) → AllowedBook b → bytesOf b ≡ s → r .units ≡ sumUnits (b .n) (itemsOf b)
+  pub longest-is : (b : Book) → AllowedBook b → bytesOf b ≡ s → r .longest ≡ largestFrom 0 (itemsOf b)

@@ -12,7 +12,7 @@ use Rattle.octets.specs.Le.{bytesLe}
 use Rattle.octets.specs.Parts.{piece, leAt}
 use Rattle.octets.proofs.Le.{length-bytesLe}
 use Rattle.octets.proofs.Put.{first, then, length-piece, piece-get, Wrote, over, piece-split, bytes-piece}
-use Rattle.book.specs.Book.{Book}
+use Rattle.book.specs.Book.{Book, itemsOf}
 use Rattle.book.specs.Lent.{padded, slotOf}
 use Rattle.book.specs.Slots.{itemAt}
 use Rattle.book.proofs.Slots.{length-padded}
@@ -126,7 +126,7 @@ module _ {s : List ℕ} {at : ℕ} {p : Parts} (o : PartsAt s at p) (slots : Lis
         let l = length-padded (piece (p .k) s (p .forward)) (omega (arith, length-piece (p .k) s (p .forward))) in
         then (first slots (34 * a) (headFrom s (p .k) (p .r) (p .forward)) e) (34 * a + 10) _ (omega arith) f .is
 
-    slot-from : {b : Book} {i : ℕ} → ItemStands s b i at → headFrom s (p .k) (p .r) (p .forward) ++ tailFrom s (p .r) (p .reverse) phi psi ≡ slotOf (item (b .items) i)
+    slot-from : {b : Book} {i : ℕ} → ItemStands s b i at → headFrom s (p .k) (p .r) (p .forward) ++ tailFrom s (p .r) (p .reverse) phi psi ≡ slotOf (item (itemsOf b) i)
     unfolding headFrom tailFrom
     slot-from h =
         let f = o .parts h in

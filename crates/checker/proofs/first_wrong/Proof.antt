@@ -24,7 +24,7 @@ use Rattle.reversal.specs.Computed.Units.{itemMade}
 use Rattle.states.specs.StateSets.{deviceIn}
 use Rattle.states.proofs.Laws.{mask-of}
 use Rattle.base.proofs.Visits.{some-left, none-left, lowest-low, left-less, none-low}
-use Rattle.book.specs.Book.{Book, AllowedBook, bytesOf}
+use Rattle.book.specs.Book.{Book, AllowedBook, bytesOf, itemsOf}
 use Rattle.states.specs.declared.StateSet.{StateSet}
 use Rattle.items.specs.declared.Place.{Place}
 use Rattle.items.specs.Items.{ItemStands, Fields}
@@ -93,7 +93,7 @@ module _ (c : tie.After-item-at Inv-loop2 μ-loop2 Inv-loop μ-loop Inv-items μ
   there : (b : Book) (a : AllowedBook b) (e : bytesOf b ≡ bookOf) → ItemStands bookOf b (walk b a e .number) atOf
   there b a e = stands device bookOf b a e atOf madeOf (walk b a e) (c .before .items-test .taken)
 
-  is : (b : Book) (a : AllowedBook b) (e : bytesOf b ≡ bookOf) → Fields bookOf (c .item-at .result) (item (b .items) (walk b a e .number))
+  is : (b : Book) (a : AllowedBook b) (e : bytesOf b ≡ bookOf) → Fields bookOf (c .item-at .result) (item (itemsOf b) (walk b a e .number))
   is b a e = c .item-at .ensures .fields (there b a e)
 
   -- and its commands lie inside the bytes

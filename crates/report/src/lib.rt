@@ -20,7 +20,7 @@ fn at_most(most: usize, bytes: &[u8]) -> usize
 pub fn report(book: &[u8], run: &[u8], out: &mut [u8]) -> usize
     ensures { λ r. ⌜ ReportAs (now (book .entry)) (now (run .entry)) (now (out .entry)) r (now (out .exit)) ⌝ }
 {
-    let book_size = at_most(31179, book);
+    let book_size = at_most(book::BOOK_LEN + 1, book);
     let run_size = at_most(302, run);
     let mut table = [0u64; book::TABLE_LEN];
     let mut slots = [0u8; book::SLOTS_LEN];

@@ -11,6 +11,9 @@ ghost use Rattle.book.specs.Lent.{lent};
 ghost use Rattle.writer.specs.Writes.{refusal};
 ghost use Rattle.writer.specs.Contract.{WriteAs};
 
+// The bytes that the lent output must hold: those of the largest book that writing writes.
+pub const OUT_LEN: usize = 31178;
+
 // What writing answers: code and place, and the book's length, 0 on a refusal.
 #[repr(C)]
 pub struct Writing {
@@ -52,7 +55,7 @@ pub fn write(
     if weights.len() < book::WEIGHTS_LEN {
         return refused(1, 0);
     }
-    if out.len() < book::BOOK_LEN {
+    if out.len() < OUT_LEN {
         return refused(1, 0);
     }
     if !limits::device_fine(n, m) {

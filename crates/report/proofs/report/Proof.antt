@@ -6,6 +6,9 @@ use Rattle.report.proofs.Exactly.{reported}
 use Rattle.report.proofs.report.Statement.{statement}
 use Rattle.report.proofs.report.Tie as tie
 
+add-at-most : tie.Need-add-at-most
+add-at-most c = search needs
+
 at-most-requires : tie.Need-at-most-requires
 at-most-requires c κs = search needs
 
@@ -56,6 +59,7 @@ pub report-spec : {M : Type 1} → statement M
 report-spec =
     tie.close
     (tie.spec
+    add-at-most
     at-most-requires
     at-most-requires-2
     slice-aggregate-assemble

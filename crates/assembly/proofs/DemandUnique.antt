@@ -19,7 +19,7 @@ use Rattle.assembly.specs.Lent.{LegForm, Room, AllLent}
 use Rattle.assembly.specs.Demand.{Given, Ready, Planned, Demand}
 
 -- the bytes have one book and one run
-same-given : {book run : List ℕ} {b b′ : Book} {u u′ : Run} → Given book run b u → Given book run b′ u′ → (b ≡ b′) × (u ≡ u′)
+pub same-given : {book run : List ℕ} {b b′ : Book} {u u′ : Run} → Given book run b u → Given book run b′ u′ → (b ≡ b′) × (u ≡ u′)
 same-given {b = b} {b′ = b′} {u = u} {u′ = u′} g g′ =
     let x : b ≡ b′ = one-book b b′ (g .accepted .allowed) (g′ .accepted .allowed) (g .accepted .bytes ∙ sym (g′ .accepted .bytes)) in
     let al : AllowedRun (deviceOf b′) u = subst (λ (y : Book). AllowedRun (deviceOf y) u) x (g .allowed) in

@@ -3,7 +3,7 @@
 use mathlib.Core.Path.{_≡_, refl, subst}
 use mathlib.Core.Logic.{_↔_}
 use mathlib.Core.List.{List}
-use Prim.Native.Nat.{ℕ, _+_, _-_, _*_, _≤_, _<_, zero-le}
+use Prim.Native.Nat.{ℕ, _+_, _-_, _*_, _/_, _%_, _≤_, _<_, zero-le}
 use native.Mathlib.Omega.{arith}
 use lib.Dec.{T}
 use lib.ListN.{length, getD, take, drop}
@@ -12,9 +12,9 @@ use Rattle.base.specs.Sizes.{LongEnough}
 use Rattle.base.specs.Lists.{Each, Bytes}
 use Rattle.base.specs.Tables.{every, byRule}
 use Rattle.reversal.specs.Device.{Device, Proper, tabled}
-use Rattle.reversal.specs.Reversal.{Item, Executable, EndsIn, Reverses, Effective, Accepted, Returns}
-use Rattle.reversal.specs.Runs.{Run, AllowedRun, last, Possible}
-use Rattle.reversal.specs.Chains.{Fits, Chain, planOf, cost, Undoes}
+use Rattle.reversal.specs.Reversal.{Item, Executable, EndsIn, Reverses, Effective, Accepted, NeverUsed, Returns}
+use Rattle.reversal.specs.Runs.{Run, AllowedRun, last, History, Possible}
+use Rattle.reversal.specs.Chains.{Fits, item, Chain, planOf, cost, Undoes}
 use Rattle.reversal.specs.Answers.{Allowed, Answer, Answers, Numbers}
 use Rattle.reversal.specs.Twelve.{Twelve}
 use Rattle.reversal.specs.Weighted.{Weighted}
@@ -27,11 +27,11 @@ use Rattle.reversal.proofs.Reversals.{tabled-proper, accepts↔}
 use Rattle.reversal.proofs.Effective.{not-both}
 use Rattle.reversal.proofs.Histories.{possible↔, percept-states}
 use Rattle.reversal.proofs.Fitting.{fits↔, fits-possible}
-use Rattle.reversal.proofs.EndToEnd.{chain-undoes}
+use Rattle.reversal.proofs.EndToEnd.{chain-undoes, never-fits}
 use Rattle.reversal.proofs.Assembling.{cost-most, numbers-right, answer-right, answers-unique}
 use Rattle.reversal.proofs.Sizes.{worked-units}
 use Rattle.reversal.proofs.Cases.{twelve, weighted}
-use Rattle.book.specs.Book.{Book, AllowedBook, bytesOf, WellFormed}
+use Rattle.book.specs.Book.{Book, deviceOf, AllowedBook, bytesOf, WellFormed, itemsOf}
 use Rattle.book.specs.Lent.{Lent}
 use Rattle.book.specs.Example as book-example
 use Rattle.book.proofs.Example as book-cases
@@ -44,7 +44,8 @@ use Rattle.reader.proofs.Cases.{q-read}
 use Rattle.reader.proofs.read.Symbol.{routine as read-routine}
 use Rattle.reader.proofs.read.Met.{met as read-met}
 use Rattle.checker.specs.declared.Checking.{Checking}
-use Rattle.checker.specs.Checks.{Checks}
+use Rattle.checker.specs.declared.Reason.the-variants.{NotEffective}
+use Rattle.checker.specs.Checks.{WrongFor, Checks}
 use Rattle.checker.specs.Cases.{QChecked}
 use Rattle.checker.proofs.Unique.{checks-unique}
 use Rattle.checker.proofs.Cases.{q-checked}
@@ -71,14 +72,14 @@ use Rattle.runs.specs.RunBytes.{runBytes}
 use Rattle.runs.specs.Example as run-example
 use Rattle.runs.proofs.Example as run-cases
 use Rattle.assembly.specs.declared.Assembly.{Assembly}
-use Rattle.assembly.specs.Lent.{LegForm, inBytes, Room, AllLent}
+use Rattle.assembly.specs.Lent.{LegForm, inBytes, Room, AllLent, allSizes}
 use Rattle.assembly.specs.Assembles.{Assembles}
-use Rattle.assembly.specs.Demand.{Ready, Demand}
+use Rattle.assembly.specs.Demand.{Given, Ready, Demand}
 use Rattle.assembly.specs.Cases.{Runs, LegRuns}
 use Rattle.assembly.proofs.Unique.{assembles-unique}
 use Rattle.assembly.proofs.DemandUnique.{SamePlan, demand-unique}
 use Rattle.assembly.proofs.Cases.{runs, leg-runs}
-use Rattle.assembly.specs.Small.{smallSizes, AssemblesSmall}
+use Rattle.assembly.specs.Small.{smallSizes, AssemblesSmall, SmallDemand}
 use Rattle.assembly.proofs.Small.{small-unique}
 use Rattle.assembly.proofs.assemble_small as assemble-small
 use Rattle.assembly.proofs.assemble_small.Symbol.{routine as assemble-small-routine}
@@ -87,8 +88,8 @@ use Rattle.assembly.proofs.assemble as assemble
 use Rattle.assembly.proofs.assemble.Symbol.{routine as assemble-routine}
 use Rattle.assembly.proofs.assemble.Met.{met as assemble-met}
 use Rattle.lookups.specs.declared.LookupResult.{LookupResult}
-use Rattle.lookups.specs.Rules.{DeviceRule, WorksOut, LeadsInside}
-use Rattle.lookups.specs.Lookup.{filled, EqualsRule, Looked}
+use Rattle.lookups.specs.Rules.{DeviceRule, OutcomesOf, WorksOut, LeadsInside}
+use Rattle.lookups.specs.Lookup.{filled, emptyIn, EqualsRule, Looked}
 use Rattle.lookups.proofs.Tables.{rule-to-table, table-unique}
 use Rattle.lookups.proofs.Exactly.{looked-unique}
 use Rattle.ridge_rule.specs.Ridge.{ridge}
@@ -112,7 +113,8 @@ use Rattle.portable_rule.proofs.outcomes.Met.{met as portable-outcomes-met}
 use Rattle.portable.proofs.table.Symbol.{routine as portable-table-routine}
 use Rattle.portable.proofs.table.Met.{met as portable-table-met}
 use Rattle.paper.specs.declared.Paged.{Paged}
-use Rattle.paper.specs.Pages.{Pages}
+use Rattle.paper.specs.Taken.{commandsOn, down}
+use Rattle.paper.specs.Pages.{pageSizes, linesOn, Pages, PageDemand, TakenDown}
 use Rattle.paper.specs.Cases.{Lines, PageRuns}
 use Rattle.paper.proofs.Unique.{pages-unique}
 use Rattle.paper.proofs.Cases.{lines, page-runs}
@@ -143,17 +145,18 @@ use Rattle.planner.proofs.rollback_ridge.Symbol.{routine as exported-ridge-rout
 use Rattle.planner.proofs.rollback_ridge.Met.{met as exported-ridge-met}
 use Rattle.planner.proofs.rollback_portable.Symbol.{routine as exported-portable-routine}
 use Rattle.planner.proofs.rollback_portable.Met.{met as exported-portable-met}
-use Rattle.report.specs.Prints.{Prints}
+use Rattle.report.specs.Prints.{Prints, Reports}
 use Rattle.report.specs.Example.{Examples}
 use Rattle.report.proofs.Exactly.{prints-first}
 use Rattle.report.proofs.Unique.{prints-unique}
 use Rattle.report.proofs.Cases.{examples}
 use Rattle.report.proofs.report.Symbol.{routine as report-routine}
 use Rattle.report.proofs.report.Met.{met as report-met}
-use Rattle.claims.specs.Claims.{onCheck, onForecast, onAssemble, onSmall, onLegs, onLayOut, ReadClaims, CheckClaims, ForecastClaims, WriteClaims, AssembleClaims, SmallClaims, EqualForms, LegsClaims, PaperClaims, LookupClaims, RuleClaims, RidgeTable, PortableTable, ReportClaims}
+use Rattle.claims.specs.Claims.{onCheck, onForecast, onAssemble, onSmall, onLegs, onLayOut, ReadClaims, UnitsForeseen, CheckClaims, ForecastNumbers, ForecastClaims, WriteClaims, AssembleClaims, SmallClaims, EqualForms, LegsClaims, PaperClaims, LookupClaims, RuleClaims, ConstantTable, RidgeTable, PortableTable, ReportClaims}
 use Rattle.claims.specs.Always.{Always}
 use Rattle.claims.specs.Worked.{ChecksWorked, ForecastsWorked, AssemblesWorked, SmallWorked, PaperWorked}
 use Rattle.claims.proofs.Foreseen as foreseen
+use Rattle.claims.proofs.Follows as follows
 use Rattle.claims.proofs.Calls.{read-claims, check-claims, forecast-claims, write-claims, assemble-claims, small-claims, equal-claims, legs-claims, paper-claims, lookup-claims, rule-claims, ridge-table-claims, portable-table-claims, report-claims, check-worked, forecast-worked, assemble-worked, small-worked, legs-worked, paper-worked}
 
 -- ---- the meaning
@@ -331,6 +334,60 @@ printing = report-claims report-routine (λ M. report-met)
 pub printing-first : {book run book′ run′ text : List ℕ} → take 31179 book ≡ take 31179 book′ → take 302 run ≡ take 302 run′ → Prints book run text
     → Prints book′ run′ text
 printing-first = prints-first
+
+-- ---- what follows from the claims, for whoever relies on them
+
+-- demand 3: "Nobody who sends the whole plan from where a history stands last can get stuck or end anywhere but where that history began": of the
+-- bytes in the lent plan, on code 0, for either form of the legs
+pub whole-plan-undoes : {E : Type 0} (form : LegForm E) {book run : List ℕ} {l : AllLent E} {r : Assembly} {l′ : AllLent E} → Demand form book run l r l′
+    → r .code ≡ 0 → {b : Book} {u : Run} → Given book run b u → Undoes (deviceOf b) u (take (r .commands) (l′ .room .plan))
+whole-plan-undoes = follows.whole-plan
+
+-- and of the commands taken down the page
+pub page-undoes : {book run : List ℕ} {l : AllLent ℕ} {page : List ℕ} {r : Paged} {l′ : AllLent ℕ} {page′ : List ℕ} → PageDemand book run l page r l′ page′
+    → TakenDown r l′ page′ → LongEnough (pageSizes page) → r .assembly .code ≡ 0 → {b : Book} {u : Run} → Given book run b u
+    → Undoes (deviceOf b) u (down commandsOn (linesOn r page′))
+page-undoes = follows.page-undoes
+
+-- plan and legs of the two forms of assembling, each compiled routine's, are one function of what is lent
+pub equal-plans : (left : List ℕ → List ℕ → Room ℕ → Room ℕ)
+    × Always assemble.ended assemble-routine (onAssemble (λ book run l r l′. LongEnough (allSizes inBytes l) → l′ .room ≡ left book run (l .room)))
+    × Always assemble-small.ended assemble-small-routine (onSmall (λ book run scratch room r scratch′ room′. LongEnough (smallSizes scratch room)
+    → room′ ≡ left book run room))
+equal-plans = follows.equal-rooms equal-forms
+
+-- any answer but 1 needs a scratch of 64 masks
+pub scratch-long : {book run scratch : List ℕ} {room : Room ℕ} {r : Assembly} {scratch′ : List ℕ} {room′ : Room ℕ}
+    → SmallDemand book run scratch room r scratch′ room′ → (r .code ≡ 1 → ⊥) → 64 ≤ length scratch
+scratch-long = follows.scratch-long
+
+-- no check of a well-formed book makes more than 65,536 units
+pub units-most : {book : List ℕ} {l : Lent} {r : Checking} {l′ : Lent} {i : ℕ} {q : Forecasted} → UnitsForeseen book l r l′ → Forecasts book i q
+    → ForecastNumbers book i q → q .code ≡ 0 → r .units ≤ 65536
+units-most = follows.units-most
+
+-- 02, of 12: "accepted by the old rule but not effective"; and where some history fits the run, such an item fits nowhere in it
+pub twelve-by-the-old-rule : {b : Book} {i : ℕ} → WrongFor b i NotEffective → Reverses (deviceOf b) (item (itemsOf b) i)
+twelve-by-the-old-rule = follows.old-rule
+
+pub never-fitting : (d : Device) (r : Run) (h : ℕ → ℕ) → History d r h → (x : Item) → NeverUsed d x → (j : ℕ) → j ≤ last r → Fits d r x j → ⊥
+never-fitting = never-fits
+
+-- a row of 5,461 bytes begins with the program's text
+pub row-printed : {book run out : List ℕ} {r : ℕ} {out′ : List ℕ} → Reports book run out r out′ → 5461 ≤ length out → Prints book run (take r out′)
+row-printed = follows.row-printed
+
+-- 01: "616 aren't empty", so that 408 of the ridge repeater's are; of the portable relay's none is
+pub ridge-empty : {table : List ℕ} → ConstantTable ridge 616 table → emptyIn table ≡ 408
+ridge-empty c = omega (arith, follows.empty-left ridge c)
+
+pub portable-empty : {table : List ℕ} → ConstantTable portable 384 table → emptyIn table ≡ 0
+portable-empty c = omega (arith, follows.empty-left portable c)
+
+-- 02: "its output must be the constant tables": what works the rule out at each entry is the table
+pub printed-table : (d : DeviceRule) {not-empty : ℕ} {table : List ℕ} → ConstantTable d not-empty table → (printed : List ℕ)
+    → length printed ≡ d .n * d .m → ((e : ℕ) → e < d .n * d .m → OutcomesOf d (e / d .m) (e % d .m) (getD printed e 0)) → table ≡ printed
+printed-table = follows.printed-table
 
 -- ---- what 01 says leaves one answer only: for equal arguments, in the result and in every buffer at exit
 

@@ -15,6 +15,11 @@ unfoldable pub filled : List ℕ → ℕ
 filled [] = 0
 filled (w ∷ ws) = pick (eqb w 0) (filled ws) (suc (filled ws))
 
+-- and how many are
+unfoldable pub emptyIn : List ℕ → ℕ
+emptyIn [] = 0
+emptyIn (w ∷ ws) = pick (eqb w 0) (suc (emptyIn ws)) (emptyIn ws)
+
 -- 01: "The constant table of 1,024 masks equals this rule; 616 aren't empty." An entry is at state × m + command; `not-empty` counts those that aren't.
 pub record EqualsRule (d : DeviceRule) (not-empty : ℕ) (table : List ℕ) : Type 0 where
   pub size : length table ≡ d .n * d .m

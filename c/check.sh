@@ -1,10 +1,11 @@
 #!/bin/sh
 # The tests from outside, with no part of the gate: check.sh [CALLS]
-# The headers under every standard that gcc and clang have; the archive's names; the constant tables against the
-# generator, where rt check tables has built it; every call between guard pages and, where valgrind is present,
-# under it, CALLS times each (100,000); the stack that rollback.h states; the C and the Rust example on the same
-# inputs, as a plan, as a plan with little memory and as a page; README's example and docs/FORMAT.md's bytes and page.
-# Its last line says it all.
+# The headers and each field of each result under every standard that gcc and clang have; the archive's names; local
+# arrays with little memory; the constant tables against the generator, where rt check tables has built it; the program
+# without standard input, where rt check rollback has built it; every call between guard pages and, where valgrind is
+# present, under it, CALLS times each (100,000); the stack that rollback.h states; the C and the Rust example on the
+# same inputs, as a plan, as a plan with little memory and as a page; README's example and docs/FORMAT.md's bytes and
+# page. Its last line says it all.
 set -eu
 cd "$(dirname "$0")/.."
 calls=${1:-100000}
@@ -65,6 +66,21 @@ if [ -x target/bin/tables ]; then
     say 'constant tables as generated'
 else
     say 'no target/bin/tables'
+fi
+
+part='local arrays'
+c/arrays.sh
+say 'local arrays of 64 at most'
+
+# Its files then have the number 0.
+part='the program without standard input'
+if [ -x target/bin/rollback ]; then
+    program=$PWD/target/bin/rollback
+    (cd $data && "$program" <&-) >"$work/out"
+    printf '0 0 1 1\n0\n' | cmp - "$work/out"
+    say 'the program without standard input'
+else
+    say 'no target/bin/rollback'
 fi
 
 part='build'
@@ -142,8 +158,7 @@ if command -v cargo >/dev/null; then
             status=0; $rust/plan ${option:+"$option"} "$@" >"$work/rust.out" 2>"$work/rust.err" || status=$?
             [ $status -eq "$expected" ] || { echo "Rust: status $status"; cat "$work/rust.out" "$work/rust.err"; exit 1; }
             cmp "$work/c.out" "$work/rust.out"
-            # The words for a file that can't be read are the system's, and Rust adds its number.
-            [ "$expected" -eq 2 ] || cmp "$work/c.err" "$work/rust.err"
+            cmp "$work/c.err" "$work/rust.err"
             [ "$expected" -eq 0 ] || { [ -s "$work/c.err" ] && [ -s "$work/rust.err" ] && [ ! -s "$work/c.out" ]; }
             [ -n "$option" ] || { cp "$work/c.out" "$work/plan.out"; cp "$work/c.err" "$work/plan.err"; }
             [ "$option" != --small ] || cmp "$work/plan.out" "$work/c.out"
@@ -180,10 +195,40 @@ if command -v cargo >/dev/null; then
     try 2 "$in/missing" "$in/run.bin"
     try 2 "$in/book.bin" "$in/missing"
     try 2 "$in" "$in/run.bin"
-    say "C and Rust example alike on $tried inputs, plan, with little memory too, and page"
+    # Files without an end, and a book of which one byte more would give another code, 7.
+    try 1 /dev/zero "$in/run.bin"
+    try 1 "$in/book.bin" /dev/zero
+    try 1 crates/rollback_folders/data/book_31180/book.bin "$in/run.bin"
+    grep -q '(code 2)' "$work/c.err"
+    # Where the plan can't be written: one status, the same words.
+    mkfifo "$work/closed"
+    for program in "$work/plan" $rust/plan; do
+        for option in '' --small --page; do
+            part="examples: $program $option, full disk"
+            status=0; "$program" ${option:+"$option"} "$in/book.bin" "$in/run.bin" >/dev/full 2>"$work/err" || status=$?
+            [ $status -eq 2 ]
+            echo 'standard output: No space left on device' | cmp - "$work/err"
+            part="examples: $program $option, closed pipe"
+            # The plan is printed only after the reader has gone.
+            {
+                read -r gone <"$work/closed"
+                status=0; "$program" ${option:+"$option"} "$in/book.bin" "$in/run.bin" 2>"$work/err" || status=$?
+                echo "$gone $status" >"$work/status"
+            } | { exec <&-; echo gone >"$work/closed"; }
+            [ "$(cat "$work/status")" = 'gone 2' ]
+            echo 'standard output: Broken pipe' | cmp - "$work/err"
+        done
+    done
+    say "C and Rust example alike on $tried inputs, plan, with little memory too, and page, and on a full disk and a closed pipe"
 
     part='crate without std'
     cargo build -q --release --manifest-path rust/Cargo.toml --no-default-features --lib
+
+    part='documents of the crate'
+    for features in '' --no-default-features; do
+        # shellcheck disable=SC2086
+        RUSTDOCFLAGS='-D warnings' cargo doc -q --manifest-path rust/Cargo.toml --no-deps $features
+    done
 
     part='README: the ridge example'
     $rust/ridge "$work/ridge" >"$work/ridge.txt"
@@ -193,7 +238,7 @@ if command -v cargo >/dev/null; then
     part='README: the page'
     sed 's/ *$//' "$work/c.out" >"$work/page.txt"
     sed -n '/^  1  3  2/,/^```$/p' README.md | sed '$d' | diff - "$work/page.txt"
-    say "crate without std; README's example as printed"
+    say "crate without std; its documents; README's example as printed"
 else
     say 'no cargo'
 fi

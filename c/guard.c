@@ -184,7 +184,7 @@ static lengths some_lengths(void) {
     l.scratch = length(ROLLBACK_SCRATCH_LEN, is_short == 7);
     l.write_table = length(ROLLBACK_TABLE_LEN, writing == 1);
     l.write_slots = length(ROLLBACK_SLOTS_LEN, writing == 2);
-    l.out = length(ROLLBACK_BOOK_LEN, writing == 3);
+    l.out = length(ROLLBACK_OUT_LEN, writing == 3);
     l.write_weights = length(ROLLBACK_WEIGHTS_LEN, writing == 4);
     return l;
 }

@@ -1,4 +1,7 @@
-/* Both headers, in every standard of C and C++: each name once, and the words. Status 1 if one is wrong. */
+/*
+ * Both headers, in every standard of C and C++: each name once, each field of each result, and the words. Status 1
+ * if one is wrong.
+ */
 #include "rollback_messages.h"
 #include "rollback.h"
 
@@ -14,6 +17,7 @@ typedef char weights_of_32_commands[ROLLBACK_WEIGHTS_LEN == 32 ? 1 : -1];
 typedef char scratch_of_64_states[ROLLBACK_SCRATCH_LEN == 64 ? 1 : -1];
 typedef char plan_of_32_items[ROLLBACK_PLAN_LEN == 32 * 8 ? 1 : -1];
 typedef char page_of_32_lines[ROLLBACK_PAGE_LEN == 32 * ROLLBACK_PAGE_LINE_LEN ? 1 : -1];
+typedef char out_of_largest_tables[ROLLBACK_OUT_LEN == 6 + 4 + 2 * 32 + 2048 * 14 + 64 * 38 ? 1 : -1];
 typedef char largest_book[ROLLBACK_BOOK_LEN == 6 + 4 + 2 * 32 + 2048 * 14 + 64 * 38 ? 1 : -1];
 typedef char largest_run[ROLLBACK_RUN_LEN == 4 + 9 + 9 * (ROLLBACK_POINTS_LEN - 1) ? 1 : -1];
 typedef char plain_results[sizeof(rollback_reading) == 40 && sizeof(rollback_writing) == 24 &&
@@ -57,11 +61,208 @@ static void expect_record(const uint8_t *book, size_t length, uint64_t place, co
     }
 }
 
+static void hold(int right, const char *what) {
+    if (!right) {
+        printf("fields: %s\n", what);
+        wrong = 1;
+    }
+}
+
+/*
+ * The order of fields. Any two fields of a result differ in one of its answers here: the numbers of a book that is
+ * accepted are all different, and a refusal has another code than place.
+ */
+enum { ITEMS = 64, SENT = 32, REVERSED = 32, REFUSED_READING = 652, REFUSED_CHECKING = 1554, FIELDS_BOOK = 2154 };
+
+static uint8_t *put_header(uint8_t *at, unsigned length, unsigned kind) {
+    at[0] = (uint8_t)length;
+    at[2] = (uint8_t)kind;
+    return at + 4;
+}
+
+/*
+ * Seven states, of which 0 alone has moves, 32 commands of weight 3 that stay there, and 64 items: 0 to 31 undo
+ * command 0 to 31 by sending it three times, 32 to 63 by sending it twice.
+ */
+static size_t put_fields_book(uint8_t *book) {
+    uint8_t *at = put_header(book, 2, 1);
+    unsigned c, i;
+    *at++ = 7;
+    *at++ = SENT;
+    for (at = put_header(at, 2 * SENT, 5), c = 0; c < SENT; c++, at += 2)
+        *at = 3;
+    for (c = 0; c < SENT; c++) {
+        at = put_header(at, 10, 2);
+        at[1] = (uint8_t)c;
+        at[2] = 1;
+        at += 10;
+    }
+    for (i = 0; i < ITEMS; i++) {
+        unsigned r = i < REVERSED ? 3 : 2;
+        at = put_header(at, 19 + r, 3);
+        *at++ = 1;
+        *at++ = (uint8_t)r;
+        for (c = 0; c <= r; c++)
+            *at++ = (uint8_t)(i % SENT);
+        at[0] = 1;
+        at[8] = 1;
+        at += 16;
+    }
+    return (size_t)(at - book);
+}
+
+/* The command between points j and j + 1: each once, and not in their order. */
+static uint8_t sent_at(unsigned j) {
+    return (uint8_t)((5 * j + 3) % SENT);
+}
+
+/* All 32 commands; nothing was heard. */
+static void put_fields_run(uint8_t *run) {
+    unsigned j;
+    uint8_t *at = run;
+    *at++ = (uint8_t)((ROLLBACK_RUN_LEN - 4) % 256);
+    *at++ = (ROLLBACK_RUN_LEN - 4) / 256;
+    *at++ = 4;
+    at++;
+    *at++ = SENT;
+    for (j = 0; j < SENT; j++)
+        *at++ = sent_at(j);
+    for (j = 0; j <= SENT; j++, at += 8)
+        *at = 127;
+}
+
+static int reading_is(rollback_reading r, uint64_t code, uint64_t place, uint64_t n, uint64_t m, uint64_t items) {
+    return r.code == code && r.place == place && r.n == n && r.m == m && r.items == items;
+}
+
+static int checking_is(rollback_checking r, uint64_t code, uint64_t place, uint64_t n, uint64_t m, uint64_t items,
+                       uint64_t units) {
+    return r.code == code && r.place == place && r.n == n && r.m == m && r.items == items && r.units == units;
+}
+
+static int forecast_is(rollback_forecasted r, uint64_t code, uint64_t place, uint64_t units, uint64_t plan_bytes,
+                       uint64_t legs) {
+    return r.code == code && r.place == place && r.units == units && r.plan_bytes == plan_bytes && r.legs == legs;
+}
+
+static int writing_is(rollback_writing r, uint64_t code, uint64_t place, uint64_t length) {
+    return r.code == code && r.place == place && r.length == length;
+}
+
+static int lookup_is(rollback_lookup r, uint64_t code, uint64_t place, uint64_t mask) {
+    return r.code == code && r.place == place && r.mask == mask;
+}
+
+/* Two commands of weight 3 for each of 32 legs, so that the number of point j is 6 * j. */
+static int assembled(const rollback_assembly *r) {
+    unsigned j;
+    for (j = 0; j < ROLLBACK_POINTS_LEN; j++)
+        if (r->fewest[j] != 6 * j)
+            return 0;
+    return r->code == 0 && r->place == 0 && r->commands == 64 && r->legs == 32 && r->sum == 192;
+}
+
+static int not_assembled(const rollback_assembly *r) {
+    unsigned j;
+    for (j = 0; j < ROLLBACK_POINTS_LEN; j++)
+        if (r->fewest[j] != ROLLBACK_NONE)
+            return 0;
+    return r->code == ROLLBACK_E_NOT_EFFECTIVE && r->place == REFUSED_CHECKING && r->commands == 0 && r->legs == 0 &&
+           r->sum == 0;
+}
+
+/* The leg from point j + 1 to j; its item is neither of the two. */
+static int leg_is(unsigned j, uint8_t item, uint8_t upper, uint8_t lower) {
+    return item == REVERSED + sent_at(j) && upper == j + 1 && lower == j && item != upper && item != lower;
+}
+
+static void expect_fields(void) {
+    static uint64_t table[ROLLBACK_TABLE_LEN], scratch[ROLLBACK_SCRATCH_LEN];
+    static uint16_t weights[ROLLBACK_WEIGHTS_LEN];
+    static uint8_t slots[ROLLBACK_SLOTS_LEN], plan[ROLLBACK_PLAN_LEN], legs[ROLLBACK_LEGS_LEN];
+    static uint8_t page[ROLLBACK_PAGE_LEN], out[ROLLBACK_OUT_LEN], run[ROLLBACK_RUN_LEN];
+    static uint8_t good[FIELDS_BOOK], no_reading[FIELDS_BOOK], no_checking[FIELDS_BOOK];
+    static rollback_leg structs[ROLLBACK_LEG_STRUCTS_LEN];
+    rollback_assembly assembly;
+    rollback_paged paged;
+    unsigned t;
+
+    hold(put_fields_book(good) == sizeof good, "the book's length");
+    put_fields_run(run);
+    memcpy(no_reading, good, sizeof good);
+    no_reading[REFUSED_READING + 4] = 0; /* k of item 5 */
+    memcpy(no_checking, good, sizeof good);
+    no_checking[REFUSED_CHECKING + 9] = 2; /* phi of item 40 */
+
+    hold(reading_is(rollback_read(good, sizeof good, table, ROLLBACK_TABLE_LEN, slots, ROLLBACK_SLOTS_LEN,
+                                  weights, ROLLBACK_WEIGHTS_LEN),
+                    0, 0, 7, 32, 64),
+         "reading");
+    hold(writing_is(rollback_write(7, 32, 64, table, ROLLBACK_TABLE_LEN, slots, ROLLBACK_SLOTS_LEN,
+                                   weights, ROLLBACK_WEIGHTS_LEN, out, ROLLBACK_OUT_LEN),
+                    0, 0, FIELDS_BOOK) &&
+             memcmp(out, good, sizeof good) == 0,
+         "writing");
+    weights[9] = 0;
+    hold(writing_is(rollback_write(7, 32, 64, table, ROLLBACK_TABLE_LEN, slots, ROLLBACK_SLOTS_LEN,
+                                   weights, ROLLBACK_WEIGHTS_LEN, out, ROLLBACK_OUT_LEN),
+                    ROLLBACK_E_FIELD, 9, 0),
+         "writing, refused");
+    hold(reading_is(rollback_read(no_reading, sizeof no_reading, table, ROLLBACK_TABLE_LEN, slots, ROLLBACK_SLOTS_LEN,
+                                  weights, ROLLBACK_WEIGHTS_LEN),
+                    ROLLBACK_E_FIELD, REFUSED_READING, 0, 0, 0),
+         "reading, refused");
+    hold(checking_is(rollback_check(good, sizeof good, table, ROLLBACK_TABLE_LEN, slots, ROLLBACK_SLOTS_LEN,
+                                    weights, ROLLBACK_WEIGHTS_LEN),
+                     0, 0, 7, 32, 64, 224),
+         "checking");
+    hold(checking_is(rollback_check(no_checking, sizeof no_checking, table, ROLLBACK_TABLE_LEN, slots,
+                                    ROLLBACK_SLOTS_LEN, weights, ROLLBACK_WEIGHTS_LEN),
+                     ROLLBACK_E_NOT_EFFECTIVE, REFUSED_CHECKING, 0, 0, 0, 155),
+         "checking, refused");
+    hold(forecast_is(rollback_forecast(good, sizeof good, 9), 0, 0, 224, 27, 9), "a forecast");
+    hold(forecast_is(rollback_forecast(no_reading, sizeof no_reading, 9), ROLLBACK_E_FIELD, REFUSED_READING, 0, 0, 0),
+         "a forecast, refused");
+    hold(lookup_is(rollback_ridge(0, 13), 0, 0, 15) && lookup_is(rollback_ridge(64, 0), ROLLBACK_E_FIELD, 0, 0) &&
+             lookup_is(rollback_portable(16, 5), 0, 0, 2162688) &&
+             lookup_is(rollback_portable(0, 12), ROLLBACK_E_FIELD, 0, 0),
+         "a lookup");
+
+    assembly = rollback_assemble_legs(good, sizeof good, run, sizeof run, table, ROLLBACK_TABLE_LEN,
+                                      slots, ROLLBACK_SLOTS_LEN, weights, ROLLBACK_WEIGHTS_LEN,
+                                      plan, ROLLBACK_PLAN_LEN, structs, ROLLBACK_LEG_STRUCTS_LEN);
+    hold(assembled(&assembly), "assembling with leg structs");
+    assembly = rollback_assemble_small(good, sizeof good, run, sizeof run, scratch, ROLLBACK_SCRATCH_LEN,
+                                       plan, ROLLBACK_PLAN_LEN, legs, ROLLBACK_LEGS_LEN);
+    hold(assembled(&assembly), "assembling with a scratch");
+    assembly = rollback_assemble(good, sizeof good, run, sizeof run, table, ROLLBACK_TABLE_LEN,
+                                 slots, ROLLBACK_SLOTS_LEN, weights, ROLLBACK_WEIGHTS_LEN,
+                                 plan, ROLLBACK_PLAN_LEN, legs, ROLLBACK_LEGS_LEN);
+    hold(assembled(&assembly), "assembling");
+    for (t = 0; t < SENT; t++) {
+        hold(leg_is(31 - t, structs[t].item, structs[t].upper, structs[t].lower), "a leg struct");
+        hold(leg_is(31 - t, legs[3 * t], legs[3 * t + 1], legs[3 * t + 2]), "a leg's bytes");
+    }
+    paged = rollback_page(good, sizeof good, run, sizeof run, table, ROLLBACK_TABLE_LEN, slots, ROLLBACK_SLOTS_LEN,
+                          weights, ROLLBACK_WEIGHTS_LEN, plan, ROLLBACK_PLAN_LEN, legs, ROLLBACK_LEGS_LEN,
+                          page, ROLLBACK_PAGE_LEN);
+    hold(assembled(&paged.assembly) && paged.length == 1312, "the page");
+
+    assembly = rollback_assemble(no_checking, sizeof no_checking, run, sizeof run, table, ROLLBACK_TABLE_LEN,
+                                 slots, ROLLBACK_SLOTS_LEN, weights, ROLLBACK_WEIGHTS_LEN,
+                                 plan, ROLLBACK_PLAN_LEN, legs, ROLLBACK_LEGS_LEN);
+    hold(not_assembled(&assembly), "assembling, refused");
+    paged = rollback_page(no_checking, sizeof no_checking, run, sizeof run, table, ROLLBACK_TABLE_LEN,
+                          slots, ROLLBACK_SLOTS_LEN, weights, ROLLBACK_WEIGHTS_LEN, plan, ROLLBACK_PLAN_LEN,
+                          legs, ROLLBACK_LEGS_LEN, page, ROLLBACK_PAGE_LEN);
+    hold(not_assembled(&paged.assembly) && paged.length == 0, "the page, refused");
+}
+
 int main(void) {
     static uint64_t table[ROLLBACK_TABLE_LEN], scratch[ROLLBACK_SCRATCH_LEN];
     static uint16_t weights[ROLLBACK_WEIGHTS_LEN];
     static uint8_t slots[ROLLBACK_SLOTS_LEN], plan[ROLLBACK_PLAN_LEN], legs[ROLLBACK_LEGS_LEN];
-    static uint8_t book[ROLLBACK_BOOK_LEN], page[ROLLBACK_PAGE_LEN];
+    static uint8_t book[ROLLBACK_OUT_LEN], page[ROLLBACK_PAGE_LEN];
     static rollback_leg structs[ROLLBACK_LEG_STRUCTS_LEN];
     /* One state, one command of weight 700 that stays there, no items; then bytes of no known kind. */
     static const uint8_t small[] = {2, 0, 1, 0, 1, 1, 2, 0, 5, 0, 188, 2, 10, 0, 2,
@@ -95,7 +296,7 @@ int main(void) {
                           weights, ROLLBACK_WEIGHTS_LEN, plan, ROLLBACK_PLAN_LEN, legs, ROLLBACK_LEGS_LEN,
                           page, ROLLBACK_PAGE_LEN);
     written = rollback_write(1, 1, 0, table, ROLLBACK_TABLE_LEN, slots, ROLLBACK_SLOTS_LEN,
-                             weights, ROLLBACK_WEIGHTS_LEN, book, ROLLBACK_BOOK_LEN);
+                             weights, ROLLBACK_WEIGHTS_LEN, book, ROLLBACK_OUT_LEN);
     if (read.code != ROLLBACK_E_DONE || read.n != 1 || read.m != 1 || read.items != 0 || weights[0] != 700 ||
         weights[1] != 0 || checked.code != read.code || checked.units != 0 || bytes.code != ROLLBACK_E_DONE ||
         bytes.sum != 0 || bytes.fewest[0] != 0 || bytes.fewest[1] != ROLLBACK_NONE || in_structs.code != bytes.code ||
@@ -137,6 +338,8 @@ int main(void) {
         printf("assembling with a scratch gives a wrong answer\n");
         wrong = 1;
     }
+
+    expect_fields();
 
     expect(rollback_message(ROLLBACK_E_DONE), "done");
     expect(rollback_message(ROLLBACK_E_TOO_MANY_ITEMS), "a book has at most 64 items");

@@ -8,8 +8,8 @@ typedef struct {
     size_t length;
 } file;
 
-/* The whole file, or exit with status 2. */
-static inline file load(const char *name) {
+/* The file's first bytes, so many at most, or exit with status 2. */
+static inline file load_first(const char *name, size_t most) {
     file f = {NULL, 0};
     size_t room = 0, got = 1;
     FILE *in = fopen(name, "rb");
@@ -19,7 +19,7 @@ static inline file load(const char *name) {
             if (f.bytes == NULL)
                 break;
         }
-        got = fread(f.bytes + f.length, 1, room - f.length, in);
+        got = fread(f.bytes + f.length, 1, (room < most ? room : most) - f.length, in);
         f.length += got;
     }
     if (in == NULL || f.bytes == NULL || ferror(in)) {
@@ -28,6 +28,11 @@ static inline file load(const char *name) {
     }
     fclose(in);
     return f;
+}
+
+/* The whole file, or exit with status 2. */
+static inline file load(const char *name) {
+    return load_first(name, SIZE_MAX);
 }
 
 /* A book and a run, one after the other. */

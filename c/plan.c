@@ -1,14 +1,16 @@
 /*
  * Prints the plan that undoes a run, with --page its page and nothing else, with --small the plan as
  * assembled with little memory: plan [--page | --small] BOOK RUN
- * Status 0 if there is one, 1 if the library refuses, 2 on bad usage or a file that can't be read or
- * written. rust/examples/plan.rs does the same in Rust.
+ * A file may have any length: as by the program rollback, a byte more is judged of it than the largest
+ * book or run has. Status 0 if there is a plan, 1 if the library refuses, 2 on bad usage or a file that
+ * can't be read or written, a closed pipe too. rust/examples/plan.rs does the same in Rust.
  */
 #include "load.h"
 #include "rollback.h"
 #include "rollback_messages.h"
 
 #include <inttypes.h>
+#include <signal.h>
 #include <string.h>
 
 /* Commands in a row, or "nothing". */
@@ -73,8 +75,11 @@ int main(int argc, char **argv) {
         fprintf(stderr, "usage: plan [--page | --small] BOOK RUN\n");
         return 2;
     }
-    book = load(names[0]);
-    run = load(names[1]);
+#ifdef SIGPIPE
+    signal(SIGPIPE, SIG_IGN); /* a closed pipe is a file that can't be written */
+#endif
+    book = load_first(names[0], ROLLBACK_BOOK_LEN + 1);
+    run = load_first(names[1], ROLLBACK_RUN_LEN + 1);
     if (on_paper) {
         static uint8_t legs[ROLLBACK_LEGS_LEN], page[ROLLBACK_PAGE_LEN];
         rollback_paged p = rollback_page(book.bytes, book.length, run.bytes, run.length, table, ROLLBACK_TABLE_LEN,

@@ -17,7 +17,7 @@ enum { STACK = 1 << 20, GAP = 1 << 16, PAINT = 0xA5 };
 static uint64_t table[ROLLBACK_TABLE_LEN], scratch[ROLLBACK_SCRATCH_LEN];
 static uint16_t weights[ROLLBACK_WEIGHTS_LEN];
 static uint8_t slots[ROLLBACK_SLOTS_LEN], plan[ROLLBACK_PLAN_LEN], legs[ROLLBACK_LEGS_LEN], page[ROLLBACK_PAGE_LEN];
-static uint8_t out[ROLLBACK_BOOK_LEN];
+static uint8_t out[ROLLBACK_OUT_LEN];
 static rollback_leg structs[ROLLBACK_LEG_STRUCTS_LEN];
 static file book, run;
 static rollback_reading device;
@@ -76,7 +76,7 @@ static void lay_out(void) {
 static void write_book(void) {
     rollback_writing r = rollback_write(device.n, device.m, device.items, table, ROLLBACK_TABLE_LEN,
                                         slots, ROLLBACK_SLOTS_LEN, weights, ROLLBACK_WEIGHTS_LEN,
-                                        out, ROLLBACK_BOOK_LEN);
+                                        out, ROLLBACK_OUT_LEN);
     code = r.code;
 }
 

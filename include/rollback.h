@@ -15,6 +15,9 @@
  * Nor does a proof cover that this header fits the archive, and that the compiler's back end, the linker,
  * memcpy and memset are right. c/check.sh and the tests in rust/ try all of that.
  *
+ * Calls use the SSE registers, as the calling convention of x86-64 allows, and nothing of AVX. Where nobody saves
+ * them, as in an interrupt handler, the caller does.
+ *
  * Lengths count elements. Where a length is 0 the pointer may be null. Book and run may have any length.
  * Lent buffers may be longer than stated: what lies past the stated length stays as it was, and no answer
  * depends on it. No call keeps anything: on buffers of their own, calls may run at the same time.
@@ -30,9 +33,9 @@ extern "C" {
 #endif
 
 /* Of this header; the Rust crate has the same. */
-#define ROLLBACK_VERSION "0.8.0"
+#define ROLLBACK_VERSION "0.9.0"
 #define ROLLBACK_VERSION_MAJOR 0
-#define ROLLBACK_VERSION_MINOR 8
+#define ROLLBACK_VERSION_MINOR 9
 #define ROLLBACK_VERSION_PATCH 0
 
 /* The least lengths of lent buffers, in elements. A shorter one is refused with code 1. */
@@ -44,11 +47,12 @@ extern "C" {
 #define ROLLBACK_LEGS_LEN 96        /* bytes: 32 legs of 3, item, upper point, lower point */
 #define ROLLBACK_LEG_STRUCTS_LEN 32 /* rollback_leg */
 #define ROLLBACK_PAGE_LEN 1312      /* bytes: 32 lines of 41, see below */
-#define ROLLBACK_BOOK_LEN 31178     /* bytes of the largest book; what writing's output must hold */
+#define ROLLBACK_OUT_LEN 31178      /* bytes: the book that writing gives */
 
 /* Other lengths. */
-#define ROLLBACK_RUN_LEN 301   /* bytes of the largest run */
-#define ROLLBACK_POINTS_LEN 33 /* points of the largest run, 0 to 32 */
+#define ROLLBACK_BOOK_LEN 31178 /* bytes of the largest book that a call takes */
+#define ROLLBACK_RUN_LEN 301    /* bytes of the largest run */
+#define ROLLBACK_POINTS_LEN 33  /* points of the largest run, 0 to 32 */
 /*
  * A slot: k, r, 8 forward commands, 8 reverse commands, 8-byte masks phi and psi, little-endian.
  * Of the commands the first k and r count; the others are 0.
@@ -63,7 +67,10 @@ extern "C" {
 
 /*
  * Bytes of stack for a call on x86-64: the most that was measured, over the largest books (docs/SPEED.md),
- * rounded up; no proof has them. c/check.sh measures again and fails above these numbers.
+ * rounded up; no proof has them. c/check.sh measures again and fails above these numbers. They are without the
+ * dynamic linker, which works on the caller's stack where a program binds late (-z lazy) and a call is the first
+ * to need memcpy or memset: with it 6,120 and 6,304 bytes were seen. Bound at the start (-z now) or linked
+ * statically, a call takes what is said here.
  */
 #define ROLLBACK_READ_STACK 1024
 #define ROLLBACK_CHECK_STACK 1024

@@ -1,11 +1,13 @@
 //! Finds libplanner.a in the folder that `ROLLBACK_LIB` names, or where `rt staticlib planner` puts it.
 
 use std::env;
-use std::path::{Path, PathBuf};
+use std::path::PathBuf;
 
 fn main() {
     println!("cargo:rerun-if-env-changed=ROLLBACK_LIB");
-    let usual = Path::new(env!("CARGO_MANIFEST_DIR")).join("../target/staticlib");
+    // As cargo says it now: a copied tree may run this as it was built in another folder.
+    let manifest = env::var_os("CARGO_MANIFEST_DIR").map_or_else(PathBuf::new, PathBuf::from);
+    let usual = manifest.join("../target/staticlib");
     let folder = env::var_os("ROLLBACK_LIB").map_or(usual, PathBuf::from);
     let archive = folder.join("libplanner.a");
     println!("cargo:rerun-if-changed={}", archive.display());

@@ -56,7 +56,7 @@ impl Lent {
             scratch: vec![0; calls::SCRATCH_LEN],
             structs: vec![calls::Leg::default(); calls::LEG_STRUCTS_LEN],
             rust_structs: vec![rollback_plain::Leg::default(); calls::LEG_STRUCTS_LEN],
-            out: vec![0; calls::BOOK_LEN],
+            out: vec![0; calls::OUT_LEN],
             device: [r.n, r.m, r.items],
         }
     }

@@ -133,7 +133,7 @@ fn main() -> Result<(), Box<dyn Error>> {
         println!("  sent {number} ({})", command(number));
         println!("  point {}: {}", i + 1, heard(sightings[i + 1]));
     }
-    let run = rollback::run(&sent, &sightings);
+    let run = rollback::run(&sent, &sightings)?;
     let plan = right.plan(&run)?;
     println!("The plan, of air time {}:", plan.sum());
     for line in plan.to_string().lines() {

@@ -242,7 +242,7 @@ pub fn write(
     let mut table = vec![0; calls::TABLE_LEN];
     let mut slots = vec![0; calls::SLOTS_LEN];
     let mut all_weights = vec![1; calls::WEIGHTS_LEN];
-    let mut out = vec![0; calls::BOOK_LEN];
+    let mut out = vec![0; calls::OUT_LEN];
     for (to, from) in table.iter_mut().zip(outcomes) {
         *to = *from;
     }

@@ -26,7 +26,9 @@ pub const LEG_STRUCTS_LEN: usize = 32;
 pub const PAGE_LEN: usize = 1_312;
 /// Bytes of a line of a page, its newline included.
 pub const PAGE_LINE_LEN: usize = 41;
-/// Bytes of the largest book, and of writing's output.
+/// Bytes of writing's lent output.
+pub const OUT_LEN: usize = 31_178;
+/// Bytes of the largest book that a call takes.
 pub const BOOK_LEN: usize = 31_178;
 /// Bytes of the largest run.
 pub const RUN_LEN: usize = 301;

@@ -21,7 +21,7 @@
 //! let book = rollback::write(2, 2, &outcomes, &[item], &[5, 3])?;
 //!
 //! // It was seen off, then command 1 was sent, then nothing was heard.
-//! let run = rollback::run(&[1], &[0b01, 0b11]);
+//! let run = rollback::run(&[1], &[0b01, 0b11])?;
 //! let plan = rollback::plan(&book, &run)?;
 //! assert_eq!(plan.commands(), [0]);
 //! assert_eq!(plan.sum(), 5);
@@ -29,10 +29,12 @@
 //! assert_eq!(plan.page(), "  1  1  0   0  1  0                     \n");
 //!
 //! // Had it not been seen off, it may have been on before, and nothing in the book undoes that.
-//! let run = rollback::run(&[1], &[0b11, 0b11]);
+//! let run = rollback::run(&[1], &[0b11, 0b11])?;
 //! assert!(matches!(rollback::plan(&book, &run), Err(rollback::Fault::NoChain { .. })));
 //! # Ok::<(), Box<dyn std::error::Error>>(())
 //! ```
+// There is no `plan` to link to then.
+#![cfg_attr(not(feature = "std"), doc = "\n[`plan`]: plan_small")]
 #![no_std]
 #![deny(missing_docs)]
 #![deny(unsafe_code)]

@@ -138,18 +138,33 @@ pub fn plan(book: &[u8], run: &[u8]) -> Result<Plan, Fault> {
 }
 
 /// A run's bytes: the commands that were sent, and before, between and after them the sightings,
-/// sets of states. All n bits mean that nothing was heard. What is no run, [`plan`] refuses.
-#[must_use]
-pub fn run(commands: &[u8], sightings: &[u64]) -> Vec<u8> {
-    let length = 1 + commands.len() + 8 * sightings.len();
-    let mut bytes = Vec::with_capacity(4 + length);
-    // Numbers past their fields' range become the largest there, which no run has.
-    bytes.extend(u16::try_from(length).unwrap_or(u16::MAX).to_le_bytes());
+/// sets of states. All n bits mean that nothing was heard.
+///
+/// # Errors
+/// Code 9, where it is a run of no device: over 32 commands, a command over 31, or not one sighting
+/// more than commands. Whether its commands and states are those of a book's device, [`plan`] judges.
+///
+/// ```
+/// use rollback::Fault;
+///
+/// let bytes = rollback::run(&[2], &[7, 1])?;
+/// assert_eq!(bytes, [18, 0, 4, 0, 1, 2, 7, 0, 0, 0, 0, 0, 0, 0, 1, 0, 0, 0, 0, 0, 0, 0]);
+/// assert_eq!(rollback::run(&[2], &[7]), Err(Fault::Run));
+/// assert_eq!(rollback::run(&[32], &[7, 1]), Err(Fault::Run));
+/// # Ok::<(), Fault>(())
+/// ```
+pub fn run(commands: &[u8], sightings: &[u64]) -> Result<Vec<u8>, Fault> {
+    let i = u8::try_from(commands.len()).map_err(|_| Fault::Run)?;
+    if i > 32 || commands.iter().any(|&c| c > 31) || sightings.len() != commands.len() + 1 {
+        return Err(Fault::Run);
+    }
+    let mut bytes = Vec::with_capacity(calls::RUN_LEN);
+    bytes.extend((9 + 9 * u16::from(i)).to_le_bytes());
     bytes.extend(4u16.to_le_bytes());
-    bytes.push(u8::try_from(commands.len()).unwrap_or(u8::MAX));
+    bytes.push(i);
     bytes.extend(commands);
     for sighting in sightings {
         bytes.extend(sighting.to_le_bytes());
     }
-    bytes
+    Ok(bytes)
 }

@@ -102,7 +102,7 @@ fn reverse_count(book: &[u8], item: u8) -> usize {
 /// // A switch: command 0 turns it off, command 1 on. "Off" undoes "on" if it was off before.
 /// let item = rollback::Item { forward: &[1], reverse: &[0], phi: 0b11, psi: 0b01 };
 /// let book = rollback::write(2, 2, &[0b01, 0b10, 0b01, 0b10], &[item], &[5, 3])?;
-/// let run = rollback::run(&[1], &[0b01, 0b11]);
+/// let run = rollback::run(&[1], &[0b01, 0b11])?;
 ///
 /// let mut scratch = [0; SCRATCH_LEN];
 /// let (mut plan, mut legs) = ([0; PLAN_LEN], [0; LEGS_LEN]);

@@ -180,6 +180,7 @@ fn units() {
     assert_eq!(rollback::forecast(&q, 0), Ok(forecast(27, 0, 0)));
     assert_eq!(Book::check(&q).unwrap().units(), 27);
     let largest = largest_book();
+    assert_eq!(largest.len(), calls::BOOK_LEN);
     let most = rollback::forecast(&largest, 32);
     assert_eq!(most, Ok(forecast(65_536, calls::PLAN_LEN, 32)));
     assert_eq!(Book::check(&largest).unwrap().units(), 65_536);
@@ -202,6 +203,8 @@ fn units() {
 
 #[test]
 fn what_can_not_be_written() {
+    // The longest book that is written.
+    assert_eq!(calls::OUT_LEN, 6 + 68 + 2048 * 14 + 64 * 38);
     let item = |forward, reverse| Item {
         forward,
         reverse,
@@ -274,7 +277,7 @@ fn the_least_sum() {
         psi: 1,
     };
     let items = [item(&[0]), item(&[2, 2, 2])];
-    let run = rollback::run(&[1], &[1, 3]);
+    let run = rollback::run(&[1], &[1, 3]).unwrap();
     let planned = |weights: &[u16]| {
         let book = rollback::write(2, 3, &[1, 2, 2, 1, 2, 1], &items, weights).unwrap();
         let plan = rollback::plan(&book, &run).unwrap();
@@ -286,10 +289,15 @@ fn the_least_sum() {
     assert_eq!(planned(&[9, 1, 3]), (vec![0], 9));
 }
 
+/// What is built is a run of the largest device, and nothing else is built.
 #[test]
-fn too_long_a_run() {
-    let book = rollback::write(1, 1, &[1], &[], &[]).unwrap();
+fn runs_that_are_none() {
     for (commands, sightings) in [
+        (0, 0),
+        (0, 2),
+        (2, 2),
+        (32, 32),
+        (32, 34),
         (33, 34),
         (256, 257),
         (287, 0),
@@ -298,10 +306,28 @@ fn too_long_a_run() {
         (1, 1 << 16),
     ] {
         let run = rollback::run(&vec![0; commands], &vec![1; sightings]);
+        assert_eq!(run, Err(Fault::Run), "{commands}, {sightings}");
+    }
+    for command in [32, 255] {
+        assert_eq!(rollback::run(&[0, command], &[1; 3]), Err(Fault::Run));
+    }
+    let book = rollback::write(64, 32, &[], &[], &[]).unwrap();
+    for commands in 0..=32 {
+        let run = rollback::run(&vec![31; commands], &vec![u64::MAX; commands + 1]).unwrap();
+        // Nothing is wrong with the run, but this device can carry no command out.
+        match rollback::plan(&book, &run) {
+            Ok(plan) => assert_eq!((commands, plan.commands()), (0, &[][..])),
+            Err(fault) => assert_eq!((commands > 0, fault), (true, Fault::NoHistory)),
+        }
+        assert_eq!(run.len(), 13 + 9 * commands);
+    }
+    assert_eq!(calls::RUN_LEN, 13 + 9 * 32);
+    // A run, but not of this device.
+    let book = rollback::write(1, 1, &[1], &[], &[]).unwrap();
+    for (commands, sightings) in [(&[1][..], &[1, 1][..]), (&[], &[2])] {
+        let run = rollback::run(commands, sightings).unwrap();
         assert_eq!(rollback::plan(&book, &run), Err(Fault::Run));
     }
-    assert!(rollback::plan(&book, &rollback::run(&[], &[1])).is_ok());
-    assert_eq!(rollback::run(&[0; 32], &[1; 33]).len(), calls::RUN_LEN);
 }
 
 /// Q's records by number and place, as docs/FORMAT.md lists them.
@@ -349,7 +375,7 @@ fn faults_have_words() {
     );
     // Q9: 1; 7 7.
     assert_eq!(
-        rollback::plan(&q_book(), &rollback::run(&[1], &[7, 7])).unwrap_err().to_string(),
+        rollback::plan(&q_book(), &rollback::run(&[1], &[7, 7]).unwrap()).unwrap_err().to_string(),
         "no items of the book lead from the run's end back to its start (code 11); there are chains from points 0"
     );
     // A run that is cut off, and a forecast for too long a one.
@@ -379,7 +405,8 @@ fn faults_have_words() {
 #[test]
 fn a_plan_reads_as_lines() {
     // Q8: 1 1; 1 7 7, by item 3, whose reverse is empty, and item 1.
-    let plan = rollback::plan(&q_book(), &rollback::run(&[1, 1], &[1, 7, 7])).unwrap();
+    let q8 = rollback::run(&[1, 1], &[1, 7, 7]).unwrap();
+    let plan = rollback::plan(&q_book(), &q8).unwrap();
     assert_eq!(
         plan.to_string(),
         "send 0\nitem 3 from point 2 to 1: nothing\nitem 1 from point 1 to 0: 0\n"
@@ -388,7 +415,8 @@ fn a_plan_reads_as_lines() {
         plan.page(),
         "  1  2  1   3  0                        \n  2  1  0   1  1  0                     \n"
     );
-    let nothing = rollback::plan(&q_book(), &rollback::run(&[], &[7])).unwrap();
+    let q11 = rollback::run(&[], &[7]).unwrap();
+    let nothing = rollback::plan(&q_book(), &q11).unwrap();
     assert_eq!(nothing.to_string(), "send nothing\n");
     assert_eq!(nothing.page(), "");
 }

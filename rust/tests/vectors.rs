@@ -1,8 +1,9 @@
 //! The cases that a second program has answered, against the library.
 
 use rollback::calls::{self, Leg, Lookup};
+use rollback_cases::device::run_bytes;
 use rollback_cases::{
-    assemble_cases, book_cases, forecast_cases, masks, page_cases, small_cases, write_cases,
+    assemble_cases, book_cases, forecast_cases, masks, page_cases, q_book, small_cases, write_cases,
 };
 
 const FILL: u8 = 0xA5;
@@ -134,6 +135,55 @@ fn plans() {
         cases.len()
     );
     assert_eq!(cases.len(), 900);
+}
+
+/// Q5, Q6 and Q8 of document 01 with leg structs: 32 are lent, then 31, which is code 1.
+#[test]
+fn leg_structs() {
+    const HELD: Leg = Leg {
+        item: 9,
+        upper: 8,
+        lower: 7,
+    };
+    let leg = |[item, upper, lower]: [u8; 3]| Leg { item, upper, lower };
+    let book = q_book();
+    let runs: [(Vec<u8>, &[[u8; 3]]); 3] = [
+        (run_bytes(&[2, 1], &[7, 7, 7]), &[[2, 2, 0]]),
+        (run_bytes(&[2, 1], &[7, 2, 7]), &[[2, 2, 0]]),
+        (run_bytes(&[1, 1], &[1, 7, 7]), &[[3, 2, 1], [1, 1, 0]]),
+    ];
+    for (number, (run, chain)) in runs.iter().enumerate() {
+        for room in [calls::LEG_STRUCTS_LEN, calls::LEG_STRUCTS_LEN - 1] {
+            let (mut table, mut slots) = ([5; calls::TABLE_LEN], [5; calls::SLOTS_LEN]);
+            let (mut weights, mut plan) = ([5; calls::WEIGHTS_LEN], [FILL; calls::PLAN_LEN]);
+            let mut legs = [HELD; calls::LEG_STRUCTS_LEN];
+            let r = calls::assemble_legs(
+                &book,
+                run,
+                &mut table,
+                &mut slots,
+                &mut weights,
+                &mut plan,
+                &mut legs[..room],
+            );
+            let head = [r.code, r.place, r.commands, r.legs, r.sum];
+            let (mut plan_after, mut legs_after) = ([FILL; calls::PLAN_LEN], [HELD; 32]);
+            if room < calls::LEG_STRUCTS_LEN {
+                assert_eq!(head, [1, 0, 0, 0, 0], "run {number}");
+                assert_eq!(table, [5; calls::TABLE_LEN], "run {number}");
+                assert_eq!(slots, [5; calls::SLOTS_LEN], "run {number}");
+                assert_eq!(weights, [5; calls::WEIGHTS_LEN], "run {number}");
+            } else {
+                assert_eq!(head, [0, 0, 1, chain.len() as u64, 1], "run {number}");
+                plan_after[0] = 0;
+                for (held, &found) in legs_after.iter_mut().zip(*chain) {
+                    *held = leg(found);
+                }
+            }
+            assert_eq!(plan, plan_after, "plan of run {number}");
+            assert_eq!(legs, legs_after, "structs of run {number}");
+        }
+    }
 }
 
 #[test]

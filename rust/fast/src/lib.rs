@@ -43,8 +43,8 @@ const PLAN: usize = 256;
 const RUN: usize = 32;
 /// Points of a run.
 const POINTS: usize = RUN + 1;
-/// Bytes of the largest book.
-const BOOK: usize = 31_178;
+/// Bytes of writing's lent output.
+const OUT: usize = 31_178;
 
 /// A refusal: code and place.
 type Fault = (u64, usize);

@@ -1,7 +1,7 @@
 //! Writing a book from table, slots and weights.
 
 use crate::item::{Item, SLOT};
-use crate::{all, put, Fault, Writing, BOOK, ITEMS, SLOTS, TABLE, WEIGHTS};
+use crate::{all, put, Fault, Writing, ITEMS, OUT, SLOTS, TABLE, WEIGHTS};
 
 pub fn write(
     n: u64,
@@ -35,7 +35,7 @@ fn write_book(
     let table = table.first_chunk::<TABLE>().ok_or(short)?;
     let slots = slots.first_chunk::<SLOTS>().ok_or(short)?;
     let weights = weights.first_chunk::<WEIGHTS>().ok_or(short)?;
-    let out = out.first_chunk_mut::<BOOK>().ok_or(short)?;
+    let out = out.first_chunk_mut::<OUT>().ok_or(short)?;
     if !(1..=64).contains(&n) || !(1..=32).contains(&m) {
         return Err((5, 0));
     }

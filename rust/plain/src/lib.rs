@@ -46,8 +46,8 @@ pub(crate) const PLAN: usize = 256;
 pub(crate) const RUN: usize = 32;
 /// Points of a run: one before each command and one after the last.
 pub(crate) const POINTS: usize = RUN + 1;
-/// Bytes of the largest book.
-pub(crate) const BOOK: usize = 31_178;
+/// Bytes of writing's lent output.
+pub(crate) const OUT: usize = 31_178;
 
 /// What reading answers.
 #[derive(Clone, Copy, Debug, PartialEq, Eq)]

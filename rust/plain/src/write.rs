@@ -3,7 +3,7 @@
 use crate::read::used;
 use crate::sets::all;
 use crate::slot::{self, Slot};
-use crate::{Fault, Writing, BOOK, ITEMS, SLOTS, TABLE, WEIGHT, WEIGHTS};
+use crate::{Fault, Writing, ITEMS, OUT, SLOTS, TABLE, WEIGHT, WEIGHTS};
 
 pub fn write(
     n: u64,
@@ -37,7 +37,7 @@ fn write_book(
     weights: &[u16],
     out: &mut [u8],
 ) -> Result<usize, Fault> {
-    if table.len() < TABLE || slots.len() < SLOTS || weights.len() < WEIGHTS || out.len() < BOOK {
+    if table.len() < TABLE || slots.len() < SLOTS || weights.len() < WEIGHTS || out.len() < OUT {
         return Err(Fault::new(1, 0));
     }
     if !(1..=64).contains(&n) || !(1..=32).contains(&m) {

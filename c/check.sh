@@ -60,6 +60,10 @@ part='names'
 c/names.sh "$archive"
 say '10 names'
 
+part='sentences and claims'
+c/demands.sh
+say 'each field of the claims beside a sentence'
+
 part='constant tables'
 if [ -x target/bin/tables ]; then
     crates/tables/make.sh --check

@@ -10,8 +10,9 @@ use Rattle.book.specs.Slots.{itemAt}
 use Rattle.book.proofs.Slots.{slots-read, slot-holds}
 use Rattle.book.proofs.Unique.{one-book}
 use Rattle.checker.specs.Checks.{AcceptedBook}
+use Rattle.assembly.specs.Asked.{Asked}
 use Rattle.assembly.specs.declared.Assembly.{Assembly}
-use Rattle.assembly.specs.Items.{ItemsOf}
+use Rattle.points.specs.Items.{ItemsOf}
 use Rattle.assembly.specs.Lent.{LegForm, Room, AllLent}
 use Rattle.assembly.specs.Assembles.{resultOf, Left, Assembles, short, unaccepted, faulty, answered}
 
@@ -25,9 +26,9 @@ counts-at : {E : Type 0} {form : LegForm E} {room : Room E} {r : Assembly} {room
     → NoneCounted (resultOf x) → NoneCounted r
 counts-at w e n = counts-of (w .result-is ∙ ap resultOf e) n
 
-module _ {E : Type 0} {form : LegForm E} {book run : List ℕ} {l : AllLent E} {r : Assembly} {l′ : AllLent E} where
+module _ {E : Type 0} {form : LegForm E} {ask : Asked} {l : AllLent E} {r : Assembly} {l′ : AllLent E} where
   -- "Counts are 0 on refusals"; 02, of the sum: "0 on a refusal"
-  pub none-counted : Assembles form book run l r l′ → (r .code ≡ 0 → ⊥) → NoneCounted r
+  pub none-counted : Assembles form ask l r l′ → (r .code ≡ 0 → ⊥) → NoneCounted r
   none-counted (short a e k) z = counts-of e (refl, refl, refl)
   none-counted (unaccepted long x n e w) z = counts-of e (refl, refl, refl)
   none-counted (faulty long b k n e w) z = counts-of e (refl, refl, refl)
@@ -37,7 +38,7 @@ module _ {E : Type 0} {form : LegForm E} {book run : List ℕ} {l : AllLent E} {
       absurd (z (ap (λ (y : Assembly). y .code) (w .result-is) ∙ ap (λ (y : Answer). y .code) q))
 
   -- with code 0 the slots hold the book's items
-  pub slots-hold : Assembles form book run l r l′ → r .code ≡ 0 → (b : Book) → AcceptedBook book b → ItemsOf (itemsFor b) (itemAt (l′ .read .slots))
+  pub slots-hold : Assembles form ask l r l′ → r .code ≡ 0 → (b : Book) → AcceptedBook (ask .book) b → ItemsOf (itemsFor b) (itemAt (l′ .read .slots))
   slots-hold (short a e k) z b ok = absurd (omega (arith, z, ap (λ (y : Assembly). y .code) e))
   slots-hold (unaccepted long x n e w) z b ok = absurd (n (sym (ap (λ (y : Assembly). y .code) e) ∙ z))
   slots-hold (faulty long b′ k n e w) z b ok = absurd (omega (arith, z, ap (λ (y : Assembly). y .code) e))

@@ -17,21 +17,21 @@ use Rattle.reversal.specs.Computed.Beliefs.{belief}
 use Rattle.reversal.specs.Computed.Least.{Links, Linked, total, leasts, leastAt, chosen}
 use Rattle.reversal.specs.Computed.Assembly.{links, numbers, answer}
 use Rattle.reversal.proofs.Shortest.{leasts-length, leasts-at, least-most, chosen-linked}
-use Rattle.reversal.proofs.Assembling.{linked→chain, sound, total-cost, plan-most}
+use Rattle.reversal.proofs.Assembling.{sound, total-cost}
 use Rattle.runs.specs.Computed.{runOf}
 use Rattle.runs.proofs.Points.{last-is, command-is}
 use Rattle.assembly.specs.declared.Assembly.{Assembly}
-use Rattle.assembly.specs.declared.chain.Counts.{Counts}
-use Rattle.assembly.specs.Believed.{Believed}
-use Rattle.assembly.specs.Items.{Items, ItemsOf, WeightsOf}
-use Rattle.assembly.specs.Links.{linksOf, Numbered}
-use Rattle.assembly.specs.ChainFollowed.{followed, Steps, planIn, legsIn, walk, Walkable, Walked}
+use Rattle.chains.specs.declared.Counts.{Counts}
+use Rattle.points.specs.Believed.{Believed}
+use Rattle.points.specs.Items.{Items, ItemsOf, WeightsOf}
+use Rattle.points.specs.Links.{linksOf, Numbered}
+use Rattle.chains.specs.ChainFollowed.{followed, Steps, planIn, legsIn, walk, Walkable, Walked}
 use Rattle.assembly.specs.Lent.{legsBytes, inBytes, Room}
 use Rattle.assembly.specs.Assembles.{refusal, resultOf}
 use Rattle.assembly.specs.Contract.{roomOf}
-use Rattle.assembly.proofs.LinksAgree.{Agree, numbered-same}
-use Rattle.assembly.proofs.ItemsFit.{links-agree}
-use Rattle.assembly.proofs.FollowedIsChosen.{followed-chosen, linked-known, plan-same, legs-same}
+use Rattle.points.proofs.LinksAgree.{Agree, numbered-same}
+use Rattle.points.proofs.ItemsFit.{links-agree}
+use Rattle.chains.proofs.FollowedIsChosen.{followed-chosen, linked-known, plan-same, legs-same}
 
 -- result, plan and legs hold the answer a
 pub record Stored (a : Answer) (room : Room ℕ) (r : Assembly) (room′ : Room ℕ) : Type 0 where
@@ -140,14 +140,7 @@ module _ (dev : Device) (ws : List ℕ) (items : List Item) (run : List ℕ) (al
       sum-is = least-is ∙ sym (linked .1) ∙ total-cost dev ws items r allowed xs
 
       walkable : Walkable F firsts i
-      walkable =
-          record {
-            low = allowed .run .short;
-            steps = walks .1;
-            short =
-                let chain = linked→chain dev ws items r allowed xs i (omega arith) (linked .0) in
-                omega (arith, ap (λ (l : List ℕ). length l) plan-is, plan-most dev ws items r allowed xs i chain, allowed .run .short);
-          }
+      walkable = record { low = allowed .run .short; steps = walks .1 }
 
       chain-stored : {w : Counts} {room′ : Room ℕ} → Walked F firsts i (room .plan) (room .legs) w (room′ .plan) (room′ .legs)
           → Stored (answer dev ws items r) room (counted (w .commands) (w .legs) (getD fewest i 0) fewest) room′

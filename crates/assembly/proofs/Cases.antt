@@ -26,6 +26,7 @@ use Rattle.checker.specs.Checks.{AcceptedBook, Checks, fine}
 use Rattle.checker.specs.Cases.{Judges}
 use Rattle.checker.proofs.Cases.{accepted-Dear, accepted-Even, accepted-Q, q-checked}
 use Rattle.runs.specs.RunBytes.{runBytes}
+use Rattle.assembly.specs.Asked.{asked}
 use Rattle.assembly.specs.declared.Assembly.{Assembly}
 use Rattle.assembly.specs.Lent.{LegForm, AllLent, roomSizes, allSizes, inBytes, legsBytes}
 use Rattle.assembly.specs.Assembles.{refusal, Assembles, short, unaccepted, faulty, answered}
@@ -40,11 +41,11 @@ bytes-Even = all-on 256 bytesEven refl
 module _ {E : Type 0} (form : LegForm E) where
   -- ---- of a book of Q's device
   module _ {s : List ℕ} (h : Bytes s) (b : Book) (accepted : AcceptedBook s b) (device : deviceOf b ≡ Q) where
-    give : (u : Run) (a : Answer) → AllowedRun Q u → Answers Q (b .weights) (itemsFor b) u a → BytesGive form s u a
+    pub give : (u : Run) (a : Answer) → AllowedRun Q u → Answers Q (b .weights) (itemsFor b) u a → BytesGive form s u a
     give u a ok g =
         record { left = λ x long. left-at h x long given (subst (λ (d : Device). Answers d (b .weights) (itemsFor b) u a) (sym device) g) }
       where
-        given : Given s (runBytes u) b u
+        given : Given (asked s (runBytes u)) b u
         given = record { accepted = accepted; allowed = subst (λ (d : Device). AllowedRun d u) (sym device) ok; run-bytes = refl }
 
   give-Q : (u : Run) (a : Answer) → AllowedRun Q u → Gives u a → BytesGive form bytesQ u a
@@ -55,7 +56,7 @@ module _ {E : Type 0} (form : LegForm E) where
     gives-code : {c : Checking} {l l′ : Lent} → Checks book l c l′ → LongEnough (sizes l) → c .code ≡ answer .code
     gives-code x long = ap (λ (y : Checking). y .code) (judges .result x long)
 
-    as-checking : {run : List ℕ} {l : AllLent E} {r : Assembly} {l′ : AllLent E} → Assembles form book run l r l′ → LongEnough (allSizes form l)
+    as-checking : {run : List ℕ} {l : AllLent E} {r : Assembly} {l′ : AllLent E} → Assembles form (asked book run) l r l′ → LongEnough (allSizes form l)
         → (r ≡ refusal (answer .code) (answer .place)) × (l′ .room ≡ l .room)
     as-checking (short a e k) long = absurd (a long)
     as-checking {l = l} (unaccepted long′ x n e w) long =

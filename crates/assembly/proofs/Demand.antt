@@ -13,6 +13,7 @@ use Rattle.reversal.proofs.EndToEnd.{chain-undoes}
 use Rattle.book.specs.Book.{Book, deviceOf, itemsFor}
 use Rattle.checker.specs.Checks.{AllAccepted}
 use Rattle.checker.proofs.Unique.{accepted-book, check-codes, not-eleven}
+use Rattle.assembly.specs.Asked.{Asked}
 use Rattle.assembly.specs.declared.Assembly.{Assembly}
 use Rattle.assembly.specs.Lent.{LegForm, AllLent}
 use Rattle.assembly.specs.Assembles.{Left, Assembles, short, unaccepted, faulty, answered}
@@ -24,8 +25,8 @@ neither : {x y : ℕ} → ((x ≡ 0) ⊎ (x ≡ 11)) → x ≡ y → (y ≡ 0 �
 neither (inl z) e n m = n (sym e ∙ z)
 neither (inr z) e n m = m (sym e ∙ z)
 
-module _ {E : Type 0} {form : LegForm E} (even : Even form) {book run : List ℕ} {l : AllLent E} {r : Assembly} {l′ : AllLent E} (h : Bytes book)
-    (x : Assembles form book run l r l′) where
+module _ {E : Type 0} {form : LegForm E} (even : Even form) {ask : Asked} {l : AllLent E} {r : Assembly} {l′ : AllLent E} (h : Bytes (ask .book))
+    (x : Assembles form ask l r l′) where
   code-of : {y : Assembly} → r ≡ y → r .code ≡ y .code
   code-of e = ap (λ (y : Assembly). y .code) e
 
@@ -34,7 +35,7 @@ module _ {E : Type 0} {form : LegForm E} (even : Even form) {book run : List ℕ
   code-at w e = code-of (w .result-is) ∙ ap (λ (y : Answer). y .code) e
 
   -- ---- where all before is in order
-  module _ {b : Book} {u : Run} (ready : Ready form book run l b u) where
+  module _ {b : Book} {u : Run} (ready : Ready form ask l b u) where
     none-then-11 : ((ys : List ℕ) → Chain (deviceOf b) u (itemsFor b) (last u) ys → ⊥) → r .code ≡ 11
     none-then-11 n = let (a, right, left) = given-answer h x (ready .long) (ready .given) in go right left
       where
@@ -92,9 +93,9 @@ module _ {E : Type 0} {form : LegForm E} (even : Even form) {book run : List ℕ
 
   -- ---- the cases of 01's table
   abbrev Is : Type 0
-  Is = Assembles form book run l r l′
+  Is = Assembles form ask l r l′
 
-  given-plan : r .code ≡ 0 → Is → (b : Book) × ((u : Run) × Given book run b u × Planned form b u r (l′ .room))
+  given-plan : r .code ≡ 0 → Is → (b : Book) × ((u : Run) × Given ask b u × Planned form b u r (l′ .room))
   given-plan z (short a e k) = absurd (omega (arith, code-of e))
   given-plan z (unaccepted long ck n e w) = absurd (n (sym (code-of e) ∙ z))
   given-plan z (faulty long b k n e w) = absurd (omega (arith, code-of e))
@@ -104,13 +105,13 @@ module _ {E : Type 0} {form : LegForm E} (even : Even form) {book run : List ℕ
       (b, (u, record { accepted = accepted-book k; allowed = al; run-bytes = ub }, planned b u (k .accepted) w best q))
 
   none-given : r .code ≡ 11 → Is
-      → (b : Book) × ((u : Run) × Ready form book run l b u × ((ys : List ℕ) → Chain (deviceOf b) u (itemsFor b) (last u) ys → ⊥))
+      → (b : Book) × ((u : Run) × Ready form ask l b u × ((ys : List ℕ) → Chain (deviceOf b) u (itemsFor b) (last u) ys → ⊥))
   none-given z (short a e k) = absurd (omega (arith, code-of e))
   none-given z (unaccepted long ck n e w) = absurd (not-eleven (check-codes ck) (sym (code-of e) ∙ z))
   none-given z (faulty long b k n e w) = absurd (omega (arith, code-of e))
   none-given z (answered long b k u al ub an (no-history n q) w) = absurd (omega (arith, code-at w q))
   none-given z (answered long b k u al ub an (no-chain p v n ns m q) w) =
-      let given : Given book run b u = record { accepted = accepted-book k; allowed = al; run-bytes = ub } in
+      let given : Given ask b u = record { accepted = accepted-book k; allowed = al; run-bytes = ub } in
       (b, (u, record { long = long; given = given; path = p; history = v }, n))
   none-given z (answered long b k u al ub an (done p v xs best ns m q) w) = absurd (omega (arith, code-at w q))
 
@@ -118,7 +119,7 @@ module _ {E : Type 0} {form : LegForm E} (even : Even form) {book run : List ℕ
       → Numbers (deviceOf b) (b .weights) u (itemsFor b) (r .fewest)
   numbers-at b u w q m = subst (Numbers (deviceOf b) (b .weights) u (itemsFor b)) (sym (ap (λ (y : Assembly). y .fewest) (w .result-is) ∙ q)) m
 
-  numbers-of : ((r .code ≡ 0) ⊎ (r .code ≡ 11)) → Is → (b : Book) × ((u : Run) × Given book run b u × Numbers (deviceOf b) (b .weights) u (itemsFor b) (r .fewest))
+  numbers-of : ((r .code ≡ 0) ⊎ (r .code ≡ 11)) → Is → (b : Book) × ((u : Run) × Given ask b u × Numbers (deviceOf b) (b .weights) u (itemsFor b) (r .fewest))
   numbers-of z (short a e k) = absurd (neither z (code-of e) (λ q. omega arith) (λ q. omega arith))
   numbers-of z (unaccepted long ck n e w) = absurd (neither z (code-of e) n (not-eleven (check-codes ck)))
   numbers-of z (faulty long b k n e w) = absurd (neither z (code-of e) (λ q. omega arith) (λ q. omega arith))
@@ -128,7 +129,7 @@ module _ {E : Type 0} {form : LegForm E} (even : Even form) {book run : List ℕ
   numbers-of z (answered long b k u al ub an (done p v xs best ns m q) w) =
       (b, (u, record { accepted = accepted-book k; allowed = al; run-bytes = ub }, numbers-at b u w (ap (λ (y : Answer). y .fewest) q) m))
 
-  pub demand : Demand form book run l r l′
+  pub demand : Demand form ask l r l′
   demand =
       record {
         plan-given = λ z. given-plan z x;

@@ -14,12 +14,13 @@ use Rattle.book.specs.Book.{Book, deviceOf, itemsFor}
 use Rattle.book.proofs.Device.{device-proper}
 use Rattle.book.proofs.Unique.{one-book}
 use Rattle.runs.proofs.Formed.{one-run}
+use Rattle.assembly.specs.Asked.{Asked}
 use Rattle.assembly.specs.declared.Assembly.{Assembly}
 use Rattle.assembly.specs.Lent.{LegForm, Room, AllLent}
 use Rattle.assembly.specs.Demand.{Given, Ready, Planned, Demand}
 
 -- the bytes have one book and one run
-pub same-given : {book run : List ℕ} {b b′ : Book} {u u′ : Run} → Given book run b u → Given book run b′ u′ → (b ≡ b′) × (u ≡ u′)
+pub same-given : {ask : Asked} {b b′ : Book} {u u′ : Run} → Given ask b u → Given ask b′ u′ → (b ≡ b′) × (u ≡ u′)
 same-given {b = b} {b′ = b′} {u = u} {u′ = u′} g g′ =
     let x : b ≡ b′ = one-book b b′ (g .accepted .allowed) (g′ .accepted .allowed) (g .accepted .bytes ∙ sym (g′ .accepted .bytes)) in
     let al : AllowedRun (deviceOf b′) u = subst (λ (y : Book). AllowedRun (deviceOf y) u) x (g .allowed) in
@@ -52,9 +53,9 @@ planned-unique form b u a c =
       a .legs-written ∙ (ap (λ (xs : List ℕ). form .held (legsOf (itemsFor b) (last u) xs)) same ∙ sym (c .legs-written)),
     )
 
-module _ {E : Type 0} (form : LegForm E) {book run : List ℕ} {l : AllLent E} {b : Book} {u : Run} (ready : Ready form book run l b u) where
+module _ {E : Type 0} (form : LegForm E) {ask : Asked} {l : AllLent E} {b : Book} {u : Run} (ready : Ready form ask l b u) where
   abbrev Is : Assembly → AllLent E → Type 0
-  Is r l′ = Demand form book run l r l′
+  Is r l′ = Demand form ask l r l′
 
   module _ {r : Assembly} {l′ : AllLent E} (x : Is r l′) where
     planned : r .code ≡ 0 → Planned form b u r (l′ .room)

@@ -1,18 +1,16 @@
 -- The contract of assembling gives what 01 says, of books, runs, histories and chains. Assumes nothing.
-use mathlib.Core.Path.{_≡_, refl, sym, ap, ap₂, _∙_, subst, subst₂}
-use mathlib.Core.Bool.{Bool, true, false}
+use mathlib.Core.Path.{_≡_, refl, sym, ap, _∙_, subst₂}
+use mathlib.Core.Bool.{Bool, true, false, false≢true}
 use mathlib.Core.List.{List, [], _∷_}
 use Prim.Native.Nat.{ℕ, _*_, _≤_, _<_}
 use native.Mathlib.Decide.{decLt}
 use native.Mathlib.Nat.{le-trans, mul-comm, mul-le-mul-left}
 use native.Mathlib.Omega.{arith}
-use lib.Dec.{T}
 use lib.ListN.{length}
-use Rattle.base.specs.Lists.{Each}
+use Rattle.base.specs.Lists.{Each, Bytes}
 use Rattle.base.specs.Sizes.{LongEnough}
-use Rattle.base.specs.Shorter.{anyShort}
 use Rattle.base.proofs.Picks as picks
-use Rattle.base.proofs.Sizes.{off-long, on-short}
+use Rattle.base.proofs.Sizes.{long-or-not}
 use Rattle.base.proofs.Lists.{each-at, stored}
 use Rattle.reversal.specs.Device.{Device}
 use Rattle.reversal.specs.Reversal.{Item, AllowedItem}
@@ -20,24 +18,24 @@ use Rattle.reversal.specs.Runs.{Run, AllowedRun, last}
 use Rattle.reversal.specs.Chains.{Leg, absent, lower, Chain, legsOf}
 use Rattle.reversal.specs.Answers.{Allowed, Answer, Answers, no-history, no-chain, done}
 use Rattle.reversal.proofs.Assembling.{plan-most, answer-right}
-use Rattle.book.specs.Book.{Book, deviceOf}
-use Rattle.book.specs.Lent.{Lent}
+use Rattle.book.specs.Book.{Book, deviceOf, itemsFor}
 use Rattle.book.proofs.Device.{device-proper}
 use Rattle.checker.specs.declared.Checking.{Checking}
 use Rattle.reader.specs.Reads as reads
 use Rattle.checker.specs.Checks.{Checked, withUnits}
-use Rattle.checker.specs.Contract.{checkBy, unitsBy, CheckAs}
+use Rattle.checker.specs.Contract.{checkBy, unitsBy, CheckingOf, CheckAs}
+use Rattle.reader.specs.Contract.{filledBy}
 use Rattle.reader.proofs.Exactly.{filled}
 use Rattle.checker.proofs.Exactly.{checks}
-use Rattle.checker.proofs.Onward.{BookChecked, book-checked, checked-by, unchecked-by}
+use Rattle.checker.proofs.Onward.{BookAccepted, book-accepted, checked-by, unchecked-by}
 use Rattle.runs.specs.RunBytes.{runBytes}
 use Rattle.runs.specs.Computed.{runOf, runFaulty}
 use Rattle.runs.proofs.Formed.{run-value, run-formed}
+use Rattle.assembly.specs.Asked.{Asked}
 use Rattle.assembly.specs.declared.Assembly.{Assembly}
 use Rattle.assembly.specs.Lent.{legsBytes, LegForm, inBytes, Room, AllLent, allSizes}
 use Rattle.assembly.specs.Assembles.{refusal, resultOf, Left, Assembles, short, unaccepted, faulty, answered}
-use Rattle.assembly.specs.Contract.{answerOf, plannedBy, assembleBy, AssembleAs}
-use Rattle.assembly.proofs.Lengths.{some-short, all-long}
+use Rattle.assembly.specs.Contract.{answerOf, plannedBy, planBy, PlannedAs, AssembleAs}
 
 -- ---- a chain has at most one item for each point passed
 module _ (d : Device) (r : Run) (items : List Item) (each : Each (AllowedItem d) items) where
@@ -80,147 +78,137 @@ held-small form even ls l = subst₂ (λ (x y : ℕ). x ≤ y) (sym (even ls)) (
 
 -- ---- the call
 -- whatever is made of it, it comes to a refusal, or to an answer
-abbrev pub Refuses : {E : Type 0} → LegForm E → (book run : List ℕ) → AllLent E → ℕ → ℕ → Type 1
-Refuses form book run l code place =
-    (A : Type 0) (refuse : ℕ → ℕ → A) (fine : Answer → A) → assembleBy form book run l refuse fine ≡ refuse code place
+abbrev pub Refuses : Asked → ℕ → ℕ → Type 1
+Refuses ask code place = (A : Type 0) (refuse : ℕ → ℕ → A) (fine : Answer → A) → planBy ask refuse fine ≡ refuse code place
 
-abbrev pub Gives : {E : Type 0} → LegForm E → (book run : List ℕ) → AllLent E → Answer → Type 1
-Gives form book run l a = (A : Type 0) (refuse : ℕ → ℕ → A) (fine : Answer → A) → assembleBy form book run l refuse fine ≡ fine a
+abbrev pub Gives : Asked → Answer → Type 1
+Gives ask a = (A : Type 0) (refuse : ℕ → ℕ → A) (fine : Answer → A) → planBy ask refuse fine ≡ fine a
 
-pub data Outcome {E : Type 0} (form : LegForm E) (book run : List ℕ) (l : AllLent E) : Type 1 where
-  refused : (code place : ℕ) → Refuses form book run l code place → Outcome form book run l
-  given : (a : Answer) → Small a → Gives form book run l a → Outcome form book run l
+pub data Outcome (ask : Asked) : Type 1 where
+  refused : (code place : ℕ) → Refuses ask code place → Outcome ask
+  given : (a : Answer) → Small a → Gives ask a → Outcome ask
 
-module _ {E : Type 0} {form : LegForm E} (even : Even form) {book run : List ℕ} {l : AllLent E} {r : Assembly} {l′ : AllLent E}
-    (c : AssembleAs form book run l r l′) where
+module _ (ask : Asked) (bytes : Bytes (ask .book)) (run-bytes : Bytes (ask .run)) where
   -- checking, as far as it went
   abbrev f : Checking
-  f = withUnits (checkBy book (l .read) reads.refusal reads.done) (unitsBy book (l .read))
+  f = withUnits (checkBy (ask .book) reads.refusal reads.done) (unitsBy (ask .book))
 
-  module _ (long : LongEnough (allSizes form l)) where
-    checked : CheckAs book (l .read) f (l′ .read)
-    checked =
-        record {
-          bytes = c .bytes;
-          result = refl;
-          buffers = c .read-is ∙ all-long form l long _ _;
-        }
+  checked : CheckingOf (ask .book) f
+  checked = record { bytes = bytes; result = refl }
 
-    enough : {A : Type 0} (refuse : ℕ → ℕ → A) (fine : Answer → A)
-        → assembleBy form book run l refuse fine ≡ checkBy book (l .read) refuse (plannedBy run refuse fine)
-    unfolding assembleBy
-    enough refuse fine = all-long form l long _ _
+  module _ (z : f .code ≡ 0) where
+    abbrev g : BookAccepted (ask .book) f
+    g = book-accepted checked z
 
-    module _ (z : f .code ≡ 0) where
-      abbrev g : BookChecked book (l .read) f (l′ .read)
-      g = book-checked checked z
+    abbrev b : Book
+    b = g .book
 
-      abbrev b : Book
-      b = g .book
+    planned : {A : Type 0} (refuse : ℕ → ℕ → A) (fine : Answer → A) → planBy ask refuse fine ≡ plannedBy ask refuse fine b
+    unfolding planBy
+    planned refuse fine = checked-by checked _ _ g
 
-      checked-is : Checked book (l .read) b (l′ .read)
-      checked-is =
-          record { filled = filled (checked .buffers) (g .long) b (g .accepted .allowed) (g .accepted .bytes) (g .parsed); accepted = g .accepted .accepted }
-
-      planned : {A : Type 0} (refuse : ℕ → ℕ → A) (fine : Answer → A) → assembleBy form book run l refuse fine ≡ plannedBy run refuse fine b
-      planned refuse fine = enough refuse fine ∙ checked-by checked _ _ g
-
-  -- the ways of a call, in their order: a short buffer; what checking refuses; a faulty run; an answer
+  -- the ways of a call, in their order: what checking refuses; a faulty run; an answer
   data Way : Type 1 where
-    by-short : anyShort (allSizes form l) ≡ true → Refuses form book run l 1 0 → Way
-    by-check : LongEnough (allSizes form l) → (f .code ≡ 0 → ⊥) → Refuses form book run l (f .code) (f .place) → Way
-    by-run : (long : LongEnough (allSizes form l)) (z : f .code ≡ 0) → runFaulty (b long z .n) (b long z .m) run ≡ true → Refuses form book run l 9 0 → Way
-    by-answer : (long : LongEnough (allSizes form l)) (z : f .code ≡ 0) → runFaulty (b long z .n) (b long z .m) run ≡ false
-        → Gives form book run l (answerOf (b long z) run) → Way
+    by-check : (f .code ≡ 0 → ⊥) → Refuses ask (f .code) (f .place) → Way
+    by-run : (z : f .code ≡ 0) → runFaulty (b z .n) (b z .m) (ask .run) ≡ true → Refuses ask 9 0 → Way
+    by-answer : (z : f .code ≡ 0) → runFaulty (b z .n) (b z .m) (ask .run) ≡ false → Gives ask (answerOf (b z) ask) → Way
 
-  too-short : anyShort (allSizes form l) ≡ true → Way
-  unfolding assembleBy
-  too-short h = by-short h (λ A refuse fine. some-short form l h (refuse 1 0) _)
-
-  on-run : (long : LongEnough (allSizes form l)) (z : f .code ≡ 0) (y : Bool) → runFaulty (b long z .n) (b long z .m) run ≡ y → Way
-  on-run long z true e = by-run long z e (λ A refuse fine. planned long z refuse fine ∙ sym (picks.yes _ _ _ _ e refl))
-  on-run long z false e = by-answer long z e (λ A refuse fine. planned long z refuse fine ∙ sym (picks.no _ _ _ _ e refl))
-
-  on-code : LongEnough (allSizes form l) → Dec (0 < f .code) → Way
-  on-code long (yes h) =
-      let n : f .code ≡ 0 → ⊥ = λ e. omega arith in
-      by-check long n (λ A refuse fine. enough long refuse fine ∙ unchecked-by (checked long) _ _ n)
-  on-code long (no h) = on-run long (omega arith) _ refl
+  on-run : (z : f .code ≡ 0) (y : Bool) → runFaulty (b z .n) (b z .m) (ask .run) ≡ y → Way
+  on-run z true e = by-run z e (λ A refuse fine. planned z refuse fine ∙ sym (picks.yes _ _ _ _ e refl))
+  on-run z false e = by-answer z e (λ A refuse fine. planned z refuse fine ∙ sym (picks.no _ _ _ _ e refl))
 
   way : Way
-  way = go _ refl
+  unfolding planBy
+  way = go (decLt 0 (f .code))
     where
-      go : (t : Bool) → anyShort (allSizes form l) ≡ t → Way
-      go true h = too-short h
-      go false h = on-code (off-long (allSizes form l) h) (decLt 0 (f .code))
+      go : Dec (0 < f .code) → Way
+      go (yes h) = let n : f .code ≡ 0 → ⊥ = λ e. omega arith in by-check n (λ A refuse fine. unchecked-by checked _ _ n)
+      go (no h) = on-run (omega arith) _ refl
 
   -- an answer to an accepted book and a run that is fine
-  module _ (long : LongEnough (allSizes form l)) (z : f .code ≡ 0) (e : runFaulty (b long z .n) (b long z .m) run ≡ false) where
+  module _ (z : f .code ≡ 0) (e : runFaulty (b z .n) (b z .m) (ask .run) ≡ false) where
     abbrev dev : Device
-    dev = deviceOf (b long z)
+    dev = deviceOf (b z)
 
     abbrev ws : List ℕ
-    ws = b long z .weights
+    ws = b z .weights
 
     abbrev items : List Item
-    items = b long z .items
+    items = itemsFor (b z)
 
-    fine-run : AllowedRun dev (runOf run) × (runBytes (runOf run) ≡ run)
-    fine-run = run-value dev run (c .run-bytes) e
+    fine-run : AllowedRun dev (runOf (ask .run)) × (runBytes (runOf (ask .run)) ≡ ask .run)
+    fine-run = run-value dev (ask .run) run-bytes e
 
-    allowed : Allowed dev ws items (runOf run)
+    allowed : Allowed dev ws items (runOf (ask .run))
     allowed =
-        let ok = g long z .accepted .allowed in
-        record { device = device-proper (b long z) ok; weights = ok .weighed; each = ok .each-item; run = fine-run .0 }
+        let ok = g z .accepted .allowed in
+        record { device = device-proper (b z) ok; weights = ok .weighed; each = ok .each-item; run = fine-run .0 }
 
-    right : Answers dev ws items (runOf run) (answerOf (b long z) run)
-    right = answer-right dev ws items (runOf run) allowed
+    right : Answers dev ws items (runOf (ask .run)) (answerOf (b z) ask)
+    right = answer-right dev ws items (runOf (ask .run)) allowed
 
-    small : Small (answerOf (b long z) run)
-    small = answer-small dev ws items (runOf run) allowed (answerOf (b long z) run) right
+    small : Small (answerOf (b z) ask)
+    small = answer-small dev ws items (runOf (ask .run)) allowed (answerOf (b z) ask) right
 
-  pub outcome : Outcome form book run l
+  pub outcome : Outcome ask
   outcome = go way
     where
-      go : Way → Outcome form book run l
-      go (by-short h q) = refused 1 0 q
-      go (by-check long n q) = refused (f .code) (f .place) q
-      go (by-run long z e q) = refused 9 0 q
-      go (by-answer long z e q) = given (answerOf (b long z) run) (small long z e) q
+      go : Way → Outcome ask
+      go (by-check n q) = refused (f .code) (f .place) q
+      go (by-run z e q) = refused 9 0 q
+      go (by-answer z e q) = given (answerOf (b z) ask) (small z e) q
 
+  -- with lent buffers that are long enough
+  module _ {E : Type 0} {form : LegForm E} (even : Even form) (l : AllLent E) (r : Assembly) (l′ : AllLent E) (long : LongEnough (allSizes form l))
+      (p : PlannedAs form ask (l .room) r (l′ .room)) (k : l′ .read ≡ filledBy (ask .book) (l .read)) where
+    read-is : CheckAs (ask .book) (l .read) f (l′ .read)
+    read-is = record { bytes = bytes; short = λ n. absurd (n (long .1 .1)); enough = λ _. (checked, k) }
+
+    checked-is : (z : f .code ≡ 0) → Checked (ask .book) (l .read) (b z) (l′ .read)
+    checked-is z =
+        let ok = g z .accepted in
+        record { filled = filled k (long .1 .1) (ok .allowed) (ok .bytes) (g z .parsed); accepted = ok .accepted }
+
+    left : (a : Answer) → Small a → Gives ask a → Left form a (l .room) r (l′ .room)
+    left a s q =
+        let e = p .room-is ∙ q _ _ _ in
+        record {
+          result-is = p .result ∙ q _ _ _;
+          plan-written = stored _ (l .room .plan) _ (omega (arith, long .0, s .plan-small)) (ap (λ (x : Room E). x .plan) e);
+          legs-written = stored _ (l .room .legs) _ (le-trans (held-small form even _ (s .legs-small)) (long .1 .0)) (ap (λ (x : Room E). x .legs) e);
+        }
+
+    assembled : Way → Assembles form ask l r l′
+    assembled (by-check n q) = unaccepted long (checks read-is) n (p .result ∙ q _ _ _) (p .room-is ∙ q _ _ _)
+    assembled (by-run z e q) =
+        let high = g z .accepted .allowed .device .n-high in
+        faulty long (b z) (checked-is z) (λ w. false≢true (sym (run-formed (deviceOf (b z)) (ask .run) high run-bytes .1 w) ∙ e)) (p .result ∙ q _ _ _)
+        (p .room-is ∙ q _ _ _)
+    assembled (by-answer z e q) =
+        let (ok, same) = fine-run z e in
+        answered long (b z) (checked-is z) (runOf (ask .run)) ok same (answerOf (b z) ask) (right z e) (left (answerOf (b z) ask) (small z e) q)
+
+module _ {E : Type 0} {form : LegForm E} {ask : Asked} {l : AllLent E} {r : Assembly} {l′ : AllLent E} where
   -- there are never more legs than the buffer has room for
-  pub legs-few : r .legs ≤ 32
-  legs-few = go outcome
+  pub legs-few : AssembleAs form ask l r l′ → r .legs ≤ 32
+  legs-few c = go (long-or-not (allSizes form l))
     where
-      go : Outcome form book run l → r .legs ≤ 32
-      go (refused code place q) = omega (arith, ap (λ (x : Assembly). x .legs) (c .result ∙ q Assembly refusal resultOf))
-      go (given a small q) = omega (arith, ap (λ (x : Assembly). x .legs) (c .result ∙ q Assembly refusal resultOf), small .legs-small, small .legs-counted)
+      legs-of : {x : Assembly} → r ≡ x → r .legs ≡ x .legs
+      legs-of e = ap (λ (y : Assembly). y .legs) e
 
-  left : (a : Answer) → Small a → LongEnough (allSizes form l) → Gives form book run l a → Left form a (l .room) r (l′ .room)
-  left a s long q =
-      let e = c .room-is ∙ q _ _ _ in
-      record {
-        result-is = c .result ∙ q _ _ _;
-        plan-written = stored _ (l .room .plan) _ (omega (arith, long .0, s .plan-small)) (ap (λ (x : Room E). x .plan) e);
-        legs-written = stored _ (l .room .legs) _ (le-trans (held-small form even _ (s .legs-small)) (long .1 .0)) (ap (λ (x : Room E). x .legs) e);
-      }
+      on-outcome : PlannedAs form ask (l .room) r (l′ .room) → Outcome ask → r .legs ≤ 32
+      on-outcome p (refused code place q) = omega (arith, legs-of (p .result ∙ q Assembly refusal resultOf))
+      on-outcome p (given a small q) = omega (arith, legs-of (p .result ∙ q Assembly refusal resultOf), small .legs-small, small .legs-counted)
 
-  pub assembles : Assembles form book run l r l′
-  assembles = go way
+      go : Dec (LongEnough (allSizes form l)) → r .legs ≤ 32
+      go (no n) = omega (arith, legs-of (c .short n .0))
+      go (yes h) = let p = c .enough h .0 in on-outcome p (outcome ask (p .bytes) (p .run-bytes))
+
+  pub assembles : Even form → AssembleAs form ask l r l′ → Assembles form ask l r l′
+  assembles even c = go (long-or-not (allSizes form l))
     where
-      differ : true ≡ false → ⊥
-      differ q = subst T q tt
-
-      go : Way → Assembles form book run l r l′
-      go (by-short h q) =
-          short (on-short (allSizes form l) h) (c .result ∙ q _ _ _)
-          (ap₂ (λ (x : Lent) (y : Room E). record { read = x; room = y }) (c .read-is ∙ some-short form l h _ _) (c .room-is ∙ q _ _ _))
-      go (by-check long n q) = unaccepted long (checks (checked long)) n (c .result ∙ q _ _ _) (c .room-is ∙ q _ _ _)
-      go (by-run long z e q) =
-          let high = g long z .accepted .allowed .device .n-high in
-          faulty long (b long z) (checked-is long z) (λ w. differ (sym e ∙ run-formed (deviceOf (b long z)) run high (c .run-bytes) .1 w))
-          (c .result ∙ q _ _ _) (c .room-is ∙ q _ _ _)
-      go (by-answer long z e q) =
-          let (ok, bytes) = fine-run long z e in
-          answered long (b long z) (checked-is long z) (runOf run) ok bytes (answerOf (b long z) run) (right long z e)
-          (left (answerOf (b long z) run) (small long z e) long q)
+      go : Dec (LongEnough (allSizes form l)) → Assembles form ask l r l′
+      go (no n) = let (e, k) = c .short n in short n e k
+      go (yes h) =
+          let (p, k) = c .enough h in
+          assembled ask (p .bytes) (p .run-bytes) even l r l′ h p k (way ask (p .bytes) (p .run-bytes))

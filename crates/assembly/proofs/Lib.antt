@@ -1,16 +1,4 @@
-pub mod Passes
-pub mod Asking
-pub mod Rows
-pub mod ReverseSum
-pub mod ItemsRead
-pub mod BestItem
-pub mod Numbers
-pub mod ChainWritten
-pub mod LinksAgree
-pub mod ItemsFit
-pub mod FollowedIsChosen
 pub mod AnswerReached
-pub mod Lengths
 pub mod WaysOfAssemble
 pub mod Lends
 pub mod Exactly
@@ -21,3 +9,4 @@ pub mod Demand
 pub mod Small
 pub mod DemandUnique
 pub mod Cases
+pub mod Edges

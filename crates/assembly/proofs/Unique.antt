@@ -17,6 +17,7 @@ use Rattle.reader.proofs.Unique.{same-filled}
 use Rattle.checker.specs.Checks.{Checked, Checks}
 use Rattle.checker.proofs.Unique.{accepted-book, checks-unique, checked-fine}
 use Rattle.runs.proofs.Formed.{one-run}
+use Rattle.assembly.specs.Asked.{Asked}
 use Rattle.assembly.specs.declared.Assembly.{Assembly}
 use Rattle.assembly.specs.Lent.{LegForm, Room, AllLent, roomSizes, allSizes}
 use Rattle.assembly.specs.Assembles.{refusal, Left, Assembles, short, unaccepted, faulty, answered}
@@ -39,8 +40,8 @@ same-left {E} v w = (
 both : {E : Type 0} {x y : AllLent E} → x .read ≡ y .read → x .room ≡ y .room → x ≡ y
 both {E} e f = ap₂ (λ (p : Lent) (q : Room E). record { read = p; room = q }) e f
 
-module _ {E : Type 0} {form : LegForm E} {book run : List ℕ} {l : AllLent E} (h : Bytes book) {r : Assembly} {l′ : AllLent E} where
-  pub assembles-unique : {q : Assembly} {l″ : AllLent E} → Assembles form book run l r l′ → Assembles form book run l q l″ → (r ≡ q) × (l′ ≡ l″)
+module _ {E : Type 0} {form : LegForm E} {ask : Asked} {l : AllLent E} (h : Bytes (ask .book)) {r : Assembly} {l′ : AllLent E} where
+  pub assembles-unique : {q : Assembly} {l″ : AllLent E} → Assembles form ask l r l′ → Assembles form ask l q l″ → (r ≡ q) × (l′ ≡ l″)
   assembles-unique (short a e k) (short a′ e′ k′) = (e ∙ sym e′, k ∙ sym k′)
   assembles-unique (short a e k) (unaccepted long x n e′ w′) = absurd (a long)
   assembles-unique (short a e k) (faulty long b x n e′ w′) = absurd (a long)
@@ -74,7 +75,7 @@ module _ {E : Type 0} {form : LegForm E} {book run : List ℕ} {l : AllLent E} (
       let (c, f) = same-left (subst (λ (a : Answer). Left form a (l .room) r (l′ .room)) same left) left₂ in (c, both i f)
 
   -- where the buffers are long enough, for a book and a run that are known, the answer is theirs
-  pub given-answer : Assembles form book run l r l′ → LongEnough (allSizes form l) → {b : Book} {u : Run} → Given book run b u
+  pub given-answer : Assembles form ask l r l′ → LongEnough (allSizes form l) → {b : Book} {u : Run} → Given ask b u
       → (a : Answer) × Answers (deviceOf b) (b .weights) (itemsFor b) u a × Left form a (l .room) r (l′ .room)
   given-answer (short a e k) long g = absurd (a long)
   given-answer (unaccepted long′ x n e w) long g =
@@ -93,7 +94,7 @@ module _ {E : Type 0} {form : LegForm E} {book run : List ℕ} {l : AllLent E} (
       )
 
   -- at an answer known to be right
-  pub left-at : Assembles form book run l r l′ → LongEnough (allSizes form l) → {b : Book} {u : Run} → Given book run b u
+  pub left-at : Assembles form ask l r l′ → LongEnough (allSizes form l) → {b : Book} {u : Run} → Given ask b u
       → {a : Answer} → Answers (deviceOf b) (b .weights) (itemsFor b) u a → Left form a (l .room) r (l′ .room)
   left-at x long {b} {u} g {a} right =
       let (a′, right′, left) = given-answer x long g in

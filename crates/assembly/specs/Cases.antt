@@ -14,18 +14,19 @@ use Rattle.reversal.specs.Weighted.{runW}
 use Rattle.book.specs.Example.{bytesQ, bytesDear, bytesEven}
 use Rattle.checker.specs.Cases.{recorded}
 use Rattle.runs.specs.RunBytes.{runBytes}
+use Rattle.assembly.specs.Asked.{asked}
 use Rattle.assembly.specs.declared.Assembly.{Assembly}
 use Rattle.assembly.specs.Lent.{LegForm, inBytes, AllLent, allSizes}
 use Rattle.assembly.specs.Assembles.{Left, Assembles}
 
 -- in buffers that are long enough, with this book
 pub record BytesGive {E : Type 0} (form : LegForm E) (book : List ℕ) (u : Run) (a : Answer) : Type 0 where
-  pub left : {l : AllLent E} {r : Assembly} {l′ : AllLent E} → Assembles form book (runBytes u) l r l′ → LongEnough (allSizes form l)
+  pub left : {l : AllLent E} {r : Assembly} {l′ : AllLent E} → Assembles form (asked book (runBytes u)) l r l′ → LongEnough (allSizes form l)
       → Left form a (l .room) r (l′ .room)
 
 -- in buffers that are long enough, this book is refused whatever the run: 9, 10 and 11 come after 8 and 12
 pub record BookRefused {E : Type 0} (form : LegForm E) (book : List ℕ) (code place : ℕ) : Type 0 where
-  pub left : {run : List ℕ} {l : AllLent E} {r : Assembly} {l′ : AllLent E} → Assembles form book run l r l′ → LongEnough (allSizes form l)
+  pub left : {run : List ℕ} {l : AllLent E} {r : Assembly} {l′ : AllLent E} → Assembles form (asked book run) l r l′ → LongEnough (allSizes form l)
       → (r ≡ record { code = code; place = place; commands = 0; legs = 0; sum = 0; fewest = replicate 33 4294967295 }) × (l′ .room ≡ l .room)
 
 pub record Runs {E : Type 0} (form : LegForm E) : Type 0 where
@@ -46,7 +47,7 @@ pub record Runs {E : Type 0} (form : LegForm E) : Type 0 where
 
 -- the leg bytes: item number, upper point, lower point
 pub record LegBytes (book : List ℕ) (u : Run) (bytes : List ℕ) : Type 0 where
-  pub written : {l : AllLent ℕ} {r : Assembly} {l′ : AllLent ℕ} → Assembles inBytes book (runBytes u) l r l′ → LongEnough (allSizes inBytes l)
+  pub written : {l : AllLent ℕ} {r : Assembly} {l′ : AllLent ℕ} → Assembles inBytes (asked book (runBytes u)) l r l′ → LongEnough (allSizes inBytes l)
       → Written bytes (l .room .legs) (l′ .room .legs)
 
 pub record LegRuns : Type 0 where

@@ -12,19 +12,20 @@ use Rattle.reversal.specs.Answers.{Numbers}
 use Rattle.book.specs.Book.{Book, deviceOf, itemsFor}
 use Rattle.checker.specs.Checks.{AcceptedBook}
 use Rattle.runs.specs.RunBytes.{runBytes}
+use Rattle.assembly.specs.Asked.{Asked}
 use Rattle.assembly.specs.declared.Assembly.{Assembly}
 use Rattle.assembly.specs.Lent.{LegForm, Room, AllLent, allSizes}
 
 -- the bytes are those of an accepted book and of a run of its device
-pub record Given (book run : List ℕ) (b : Book) (u : Run) : Type 0 where
-  pub accepted : AcceptedBook book b
+pub record Given (ask : Asked) (b : Book) (u : Run) : Type 0 where
+  pub accepted : AcceptedBook (ask .book) b
   pub allowed : AllowedRun (deviceOf b) u
-  pub run-bytes : runBytes u ≡ run
+  pub run-bytes : runBytes u ≡ ask .run
 
 -- "no refusal that goes before it is due, some history fits the run"
-pub record Ready {E : Type 0} (form : LegForm E) (book run : List ℕ) (l : AllLent E) (b : Book) (u : Run) : Type 0 where
+pub record Ready {E : Type 0} (form : LegForm E) (ask : Asked) (l : AllLent E) (b : Book) (u : Run) : Type 0 where
   pub long : LongEnough (allSizes form l)
-  pub given : Given book run b u
+  pub given : Given ask b u
   pub path : ℕ → ℕ
   pub history : History (deviceOf b) u path
 
@@ -44,14 +45,14 @@ pub record Planned {E : Type 0} (form : LegForm E) (b : Book) (u : Run) (r : Ass
   pub least-sum : (ys : List ℕ) → Chain (deviceOf b) u (itemsFor b) (last u) ys → r .sum ≤ cost (b .weights) (itemsFor b) ys
   pub lowest : (ys : List ℕ) → Chain (deviceOf b) u (itemsFor b) (last u) ys → cost (b .weights) (itemsFor b) ys ≡ r .sum → LexLe items ys
 
-pub record Demand {E : Type 0} (form : LegForm E) (book run : List ℕ) (l : AllLent E) (r : Assembly) (l′ : AllLent E) : Type 0 where
+pub record Demand {E : Type 0} (form : LegForm E) (ask : Asked) (l : AllLent E) (r : Assembly) (l′ : AllLent E) : Type 0 where
   -- "Where assembling gives a plan, the book is accepted, .."
-  pub plan-given : r .code ≡ 0 → (b : Book) × ((u : Run) × Given book run b u × Planned form b u r (l′ .room))
+  pub plan-given : r .code ≡ 0 → (b : Book) × ((u : Run) × Given ask b u × Planned form b u r (l′ .room))
   -- "'no chain' exactly when no refusal that goes before it is due, some history fits the run and no chain fits"
   pub no-chain :
-      (r .code ≡ 11) ↔ ((b : Book) × ((u : Run) × Ready form book run l b u
+      (r .code ≡ 11) ↔ ((b : Book) × ((u : Run) × Ready form ask l b u
       × ((ys : List ℕ) → Chain (deviceOf b) u (itemsFor b) (last u) ys → ⊥)))
   -- "where the first two hold and a chain does fit, it gives a plan"
-  pub gives-plan : (b : Book) (u : Run) → Ready form book run l b u → (ys : List ℕ) → Chain (deviceOf b) u (itemsFor b) (last u) ys → r .code ≡ 0
+  pub gives-plan : (b : Book) (u : Run) → Ready form ask l b u → (ys : List ℕ) → Chain (deviceOf b) u (itemsFor b) (last u) ys → r .code ≡ 0
   -- on 0 and 11 the least sum for each of the 33 points
-  pub numbers : ((r .code ≡ 0) ⊎ (r .code ≡ 11)) → (b : Book) × ((u : Run) × Given book run b u × Numbers (deviceOf b) (b .weights) u (itemsFor b) (r .fewest))
+  pub numbers : ((r .code ≡ 0) ⊎ (r .code ≡ 11)) → (b : Book) × ((u : Run) × Given ask b u × Numbers (deviceOf b) (b .weights) u (itemsFor b) (r .fewest))

@@ -6,11 +6,7 @@ use lib.ListN.{length}
 use Rattle.base.specs.Sizes.{Sized, _for_}
 use Rattle.reversal.specs.Chains.{Leg}
 use Rattle.book.specs.Lent.{Lent, sizes}
-
--- "Each leg is an item number, its upper point and its lower point", a byte each
-unfoldable pub legsBytes : List Leg → List ℕ
-legsBytes [] = []
-legsBytes (l ∷ ls) = l .number ∷ l .upper ∷ l .lower ∷ legsBytes ls
+unfoldable pub use Rattle.chains.specs.Legs.{legsBytes}
 
 -- How the lent legs hold a leg: the elements for one, and those of a list of legs.
 pub record LegForm (E : Type 0) : Type 0 where

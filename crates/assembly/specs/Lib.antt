@@ -1,12 +1,9 @@
-pub mod Believed
-pub mod Items
-pub mod Links
-pub mod Rows
-pub mod ChainFollowed
 pub mod Lent
+pub mod Asked
 pub mod LegsRead
 pub mod Assembles
 pub mod Contract
 pub mod Demand
 pub mod Cases
 pub mod Small
+pub mod Edges

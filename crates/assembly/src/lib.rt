@@ -1,15 +1,12 @@
 // Assembling a roll-back plan for a run from the items of a book.
-mod beliefs;
-mod chain;
-mod points;
-
-use beliefs::beliefs;
-use chain::write_chain;
+use chains::write_chain;
 use checker::Checking;
+use points::beliefs::beliefs;
 use points::points_of;
 ghost use mathlib.Core.Path.{_≡_};
 ghost use Rattle.book.specs.Lent.{lent};
 ghost use Rattle.states.specs.StateSets.{deviceIn};
+ghost use Rattle.assembly.specs.Asked.{asked};
 ghost use Rattle.assembly.specs.Lent.{inBytes, lentRoom, allLent};
 ghost use Rattle.assembly.specs.Assembles.{refusal};
 ghost use Rattle.assembly.specs.Contract.{AssembleAs, Lending, PlannedAs, SmallAs};
@@ -58,8 +55,8 @@ fn planned(
     plan: &mut [u8],
     legs: &mut [u8],
 ) -> Assembly
-    requires { ⌜ Lending (now book) (deviceIn tabled (now book) (now masks) (found .n) (found .m)) (now weights) found (lentRoom (now plan) (now legs)) ⌝ }
-    ensures { λ r. ⌜ PlannedAs (now (book .entry)) (now (run .entry)) found (lentRoom (now (plan .entry)) (now (legs .entry))) r
+    requires { ⌜ Lending (now book) (deviceIn tabled (now book) (now masks) (found .n) (found .m)) (now weights) found ⌝ }
+    ensures { λ r. ⌜ PlannedAs inBytes (asked (now (book .entry)) (now (run .entry))) (lentRoom (now (plan .entry)) (now (legs .entry))) r
         (lentRoom (now (plan .exit)) (now (legs .exit))) ⌝ }
 {
     if !runs::run_fine(run, found.n, found.m) {
@@ -105,7 +102,7 @@ pub fn assemble(
     plan: &mut [u8],
     legs: &mut [u8],
 ) -> Assembly
-    ensures { λ r. ⌜ AssembleAs inBytes (now (book .entry)) (now (run .entry))
+    ensures { λ r. ⌜ AssembleAs inBytes (asked (now (book .entry)) (now (run .entry)))
         (allLent (lent (now (table .entry)) (now (slots .entry)) (now (weights .entry))) (now (plan .entry)) (now (legs .entry))) r
         (allLent (lent (now (table .exit)) (now (slots .exit)) (now (weights .exit))) (now (plan .exit)) (now (legs .exit))) ⌝ }
 {
@@ -131,7 +128,7 @@ pub fn assemble_small(
     plan: &mut [u8],
     legs: &mut [u8],
 ) -> Assembly
-    ensures { λ r. ⌜ SmallAs (now (book .entry)) (now (run .entry)) (now (scratch .entry)) (lentRoom (now (plan .entry)) (now (legs .entry))) r
+    ensures { λ r. ⌜ SmallAs (asked (now (book .entry)) (now (run .entry))) (now (scratch .entry)) (lentRoom (now (plan .entry)) (now (legs .entry))) r
         (now (scratch .exit)) (lentRoom (now (plan .exit)) (now (legs .exit))) ⌝ }
 {
     if plan.len() < PLAN_LEN {

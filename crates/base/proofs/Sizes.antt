@@ -2,7 +2,7 @@
 use mathlib.Core.Path.{_≡_, refl, sym, _∙_}
 use mathlib.Core.Bool.{Bool, true, false, false≢true}
 use mathlib.Core.List.{List, [], _∷_, _++_}
-use Prim.Native.Nat.{_<_, _≤_}
+use Prim.Native.Nat.{_≤_}
 use Rattle.base.specs.Tests.{pick}
 use Rattle.base.specs.Compare.{less}
 use Rattle.base.specs.Sizes.{Sized, LongEnough}
@@ -12,10 +12,6 @@ use Rattle.base.proofs.Picks.{tests}
 use Rattle.base.proofs.Parts.{each-right}
 
 -- ---- the test, buffer by buffer
-pub short-here : (s : Sized) (ss : List Sized) → s .held < s .stated → anyShort (s ∷ ss) ≡ true
-unfolding anyShort
-short-here s ss h = sym (search tests)
-
 pub short-past : (s : Sized) (ss : List Sized) → s .stated ≤ s .held → anyShort (s ∷ ss) ≡ anyShort ss
 unfolding anyShort
 short-past s ss h = sym (search tests)
@@ -23,11 +19,6 @@ short-past s ss h = sym (search tests)
 pub none-short : anyShort [] ≡ false
 unfolding anyShort
 none-short = refl
-
--- the buffers before are long enough
-pub short-after : (ss ts : List Sized) → LongEnough ss → anyShort (ss ++ ts) ≡ anyShort ts
-short-after [] ts h = refl
-short-after (s ∷ ss) ts h = short-past s (ss ++ ts) (h .0) ∙ short-after ss ts (h .1)
 
 pub long-after : (ss ts : List Sized) → LongEnough (ss ++ ts) → LongEnough ts
 long-after ss ts h = each-right (λ s. s .stated ≤ s .held) ss ts h

@@ -1,4 +1,5 @@
-// Runs the cases of books.bin through reading and checking, and prints what each answers and leaves behind.
+// Runs the 600 cases of books.bin, made by a second program, through reading and checking, and prints what each answers and leaves behind.
+// A case is a byte that says how buffers are lent; the book's length, two bytes; the book.
 use checker::Checking;
 use reader::Reading;
 
@@ -100,18 +101,18 @@ fn run_with(kind: u64, book: &[u8]) {
     );
 }
 
-// All cases of the file: a byte, a two-byte length, the book.
-fn run_all(s: &[u8]) {
-    let mut at: usize = 0;
-    while at < s.len() {
-        let len = octets::u16_at(s, at + 1) as usize;
-        run_with(octets::byte_at(s, at), vectors::part(s, at + 3, len));
-        at = at + 3 + len;
-    }
+// The file's next case.
+fn next_case(file: i32) {
+    let mut head = [0u8; 3];
+    let mut book = [0u8; 31179];
+    let size = vectors::next_book(file, &mut head, &mut book);
+    run_with(octets::byte_at(&head, 0), &book[..size]);
 }
 
 fn main() {
-    let mut file = [0u8; 400000];
-    let size = files::read_file(b"books.bin", &mut file);
-    run_all(&file[..size]);
+    let cases = vectors::open(b"books.bin", 600);
+    for _ in 0..cases.count {
+        next_case(cases.file);
+    }
+    libc::close(cases.file);
 }

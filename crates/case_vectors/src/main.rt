@@ -32,24 +32,17 @@ fn run_case(book: &[u8], run: &[u8]) {
 
 // The file's next case.
 fn next_case(file: i32) {
-    let mut sizes = [0u8; 4];
+    let mut head = [0u8; 2];
     let mut book = [0u8; 31179];
     let mut run = [0u8; 302];
-    io::read_full(file, &mut sizes);
-    let book_size = vectors::read_part(file, octets::u16_at(&sizes, 0) as u16, &mut book);
-    let run_size = vectors::read_part(file, octets::u16_at(&sizes, 2) as u16, &mut run);
-    run_case(&book[..book_size], &run[..run_size]);
+    let sizes = vectors::next_case(file, &mut head, &mut book, &mut run);
+    run_case(&book[..sizes.book], &run[..sizes.run]);
 }
 
 fn main() {
-    let path = b"cases.bin";
-    let file = os::open_read(path);
-    if file < 0 {
-        os::fail(path);
-        return;
+    let cases = vectors::open(b"cases.bin", 900);
+    for _ in 0..cases.count {
+        next_case(cases.file);
     }
-    for _ in 0..900u64 {
-        next_case(file);
-    }
-    libc::close(file);
+    libc::close(cases.file);
 }

@@ -3,10 +3,11 @@
 use mathlib.Core.Path.{_≡_, refl, sym, ap, _∙_, subst}
 use mathlib.Core.Bool.{true}
 use mathlib.Core.List.{List, [], _∷_, _++_}
-use Prim.Native.Nat.{ℕ, _<_}
+use Prim.Native.Nat.{ℕ, _+_, _*_, _≤_, _<_}
+use native.Mathlib.Omega.{arith}
 use lib.Dec.{lit<}
-use lib.ListN.{length, take, drop}
-use Rattle.base.specs.Lists.{Each}
+use lib.ListN.{length, getD, take, drop}
+use Rattle.base.specs.Lists.{Each, Bytes}
 use Rattle.base.specs.Sizes.{LongEnough}
 use Rattle.base.specs.Tests.{pick, both, imp}
 use Rattle.base.specs.Compare.{less, atMost, same, differ}
@@ -21,24 +22,30 @@ use Rattle.reversal.specs.Computed.Sets.{after, able, reach, runsBack, ends, st
 use Rattle.reversal.specs.Computed.Units.{backUnits, startMade, startsMade, itemMade, itemsMade}
 use Rattle.reversal.specs.Weighted.{dear, itemsDear, itemsEven}
 use Rattle.reversal.proofs.Cases.{twelve, weighted}
-use Rattle.book.specs.Book.{Book, outcomeOf, frame, twoBytes, allOne, weightsRecs, itemsOf}
+use Rattle.book.specs.Book.{Book, deviceOf, outcomeOf, frame, twoBytes, allOne, weightsRecs, itemsOf}
 use Rattle.book.specs.Parse.{parse, cutAfter, scan, kindOf, step, moveOf, itemOf, weightsOf, weightsIn, movesIn, itemsIn}
 use Rattle.book.specs.Limits.{deviceFine, weightFine, weightsFine, moveFine, countsFine, allBelow, fieldsFine}
 use Rattle.book.specs.Parse.Parsed.{Ok}
 use Rattle.book.specs.Lent.{Lent, sizes, WeightsRead}
-use Rattle.book.specs.Example.{bookQ, bytesQ, bookDear, bytesDear, bookEven, bytesEven}
+use Rattle.book.specs.Buffers.{tableOf}
+use Rattle.book.specs.Example.{move, bookQ, bytesQ, bookDear, bytesDear, bookEven, bytesEven}
 use Rattle.book.proofs.Fields.{all-on}
 use Rattle.book.proofs.Reading.{parse-fine}
+use Rattle.book.proofs.Refused.{refused-exactly}
+use Rattle.book.proofs.Table.{table-read}
 use Rattle.book.proofs.Example.{bytes-bookQ, allowed-bookQ, device-bookQ, bytes-bookDear, allowed-bookDear, device-bookDear, bytes-bookEven, allowed-bookEven, device-bookEven}
 use Rattle.reader.specs.Reads.{refusal}
 use Rattle.reader.proofs.Cases.{bytes-Q, bytes-Dear}
 use Rattle.checker.specs.declared.Checking.{Checking}
+use Rattle.checker.specs.declared.TableChecking.{TableChecking}
 use Rattle.checker.specs.Reasons.{codeOf}
 use Rattle.checker.specs.Checks.{AcceptedBook, placeOf, withUnits, Checks}
-use Rattle.checker.specs.Cases.{Judges, QChecked}
+use Rattle.checker.specs.TableChecks.{refused, TableChecks, short, faulty, wrong, fine}
+use Rattle.checker.specs.Cases.{Judges, QChecked, TableGives, TablesChecked}
 use Rattle.checker.specs.Contract.{wrongItem, reasonFor, reasonIn, unitsOf}
 use Rattle.checker.proofs.Exactly.{first-wrong, units-made}
 use Rattle.checker.proofs.Unique.{made-unique, checked-fine, checked-wrong}
+use Rattle.checker.proofs.TableChecks.{table-checks-unique}
 
 -- the items of the two cases with weights
 pub accepted-Dear : AcceptedBook bytesDear bookDear
@@ -55,7 +62,7 @@ accepted-Q =
     record { allowed = allowed-bookQ; bytes = bytes-bookQ; accepted = subst (λ (d : Device). Each (Accepted d) itemsQ) (sym device-bookQ) (twelve .q1) }
 
 -- bytes that parse as a book whose item i is the first that the test turns down
-refused-at : (s : List ℕ) (b : Book) → allBelow 256 s ≡ true → parse s ≡ Ok b → wrongItem b < length (itemsOf b)
+pub refused-at : (s : List ℕ) (b : Book) → allBelow 256 s ≡ true → parse s ≡ Ok b → wrongItem b < length (itemsOf b)
     → Judges s (withUnits (refusal (codeOf (reasonIn b)) (placeOf b (wrongItem b))) (unitsOf b))
 refused-at s b h e l =
     let bytes = all-on 256 s h in
@@ -103,4 +110,69 @@ q-checked =
       dear = record { result = λ x long. checked-fine bytes-Dear x long accepted-Dear .0 };
       dear-wrong = refused-at _ dearer refl refl (lit< tt);
       dear-filled = λ x long. filled-at _ dearer refl refl (lit< tt) x long .front;
+    }
+
+-- ---- with a table as the only buffer: an entry of the table too
+abbrev tableAt : Book → ℕ → ℕ → ℕ
+tableAt b state command = state * b .m + command
+
+module _ (s : List ℕ) (b : Book) (h : allBelow 256 s ≡ true) (e : parse s ≡ Ok b) (state command : ℕ) (in-n : state < b .n) (in-m : command < b .m) where
+  bytes : Bytes s
+  bytes = all-on 256 s h
+
+  -- what one answer leaves, every other does
+  gives : {answer : TableChecking} → ((table : List ℕ) → 2048 ≤ length table → TableChecks s table answer (tableOf b table))
+      → TableGives s answer (tableAt b state command) (deviceOf b .outcomes state command)
+  gives here =
+      record {
+        result =
+            λ {table} x long.
+            let (r, t) = table-checks-unique bytes x (here table long) in
+            (r, ap (λ (y : List ℕ). getD y (tableAt b state command) 0) t ∙ table-read b table (parse-fine s b bytes e .0) long .entries state command in-n in-m);
+      }
+
+  table-wrong : wrongItem b < length (itemsOf b)
+      → TableGives s (refused (codeOf (reasonIn b)) (placeOf b (wrongItem b))) (tableAt b state command) (deviceOf b .outcomes state command)
+  table-wrong l =
+      let (a, same) = parse-fine s b bytes e in
+      gives (λ table long. wrong long b a same (first-wrong b a l) refl (table-read b table a long))
+
+  table-fine : AcceptedBook s b
+      → TableGives s (record { code = 0; place = 0; n = b .n; m = b .m }) (tableAt b state command) (deviceOf b .outcomes state command)
+  table-fine a =
+      gives (λ table long. fine b (record { long = long; accepted = a; read = table-read b table (a .allowed) long }) refl)
+
+-- a book of 4 states and 1 command
+bytesFour : List ℕ
+bytesFour = 2 ∷ 0 ∷ 1 ∷ 0 ∷ 4 ∷ 1 ∷ 10 ∷ 0 ∷ 2 ∷ 0 ∷ 3 ∷ 0 ∷ 1 ∷ 0 ∷ 0 ∷ 0 ∷ 0 ∷ 0 ∷ 0 ∷ 0 ∷ []
+
+four : Book
+four = record { n = 4; m = 1; weights = 1 ∷ []; moves = move 3 0 1 ∷ []; items = [] }
+
+accepted-four : AcceptedBook bytesFour four
+unfolding pick both less atMost same differ clearFrom bytesLe parse cutAfter scan kindOf step deviceFine moveFine countsFine allBelow fieldsFine moveOf itemOf weightsIn movesIn itemsIn weightsOf weightFine weightsFine twoBytes allOne weightsRecs bytesFour four
+accepted-four = let (a, same) = parse-fine bytesFour four (all-on 256 bytesFour refl) refl in record { allowed = a; bytes = same; accepted = tt }
+
+short-table : {book table : List ℕ} {r : TableChecking} {table′ : List ℕ} → TableChecks book table r table′ → length table ≡ 2047
+    → (r ≡ record { code = 1; place = 0; n = 0; m = 0 }) × (table′ ≡ table)
+short-table (short l e k) n = (e, k)
+short-table (faulty l f e k) n = absurd (omega arith)
+short-table (wrong l b a s w e k) n = absurd (omega arith)
+short-table (fine b g e) n = absurd (omega (arith, g .long))
+
+pub tables-checked : TablesChecked
+unfolding pick both imp less atMost same differ all any union seek member clearFrom bytesLe frame outcomeOf after able reach runsBack ends startOk reverses startUsed effective accepts wrongItem reasonFor parse cutAfter scan kindOf step deviceFine moveFine countsFine allBelow fieldsFine moveOf itemOf weightsIn movesIn itemsIn weightsOf weightFine weightsFine twoBytes allOne weightsRecs longer bytesFour four
+tables-checked =
+    record {
+      q1 = table-fine _ bookQ refl refl 0 2 (lit< tt) (lit< tt) accepted-Q;
+      q3 = table-wrong _ (longer (itemQ3 ∷ [])) refl refl 0 2 (lit< tt) (lit< tt) (lit< tt);
+      q4 = table-wrong _ (longer (itemQ4 ∷ [])) refl refl 0 2 (lit< tt) (lit< tt) (lit< tt);
+      four-one = table-fine _ four refl refl 3 0 (lit< tt) (lit< tt) accepted-four;
+      cut =
+          record {
+            result =
+                λ x long.
+                table-checks-unique (all-on 256 (take 224 bytesQ) refl) x (faulty long (refused-exactly (take 224 bytesQ) 2 201 (all-on 256 (take 224 bytesQ) refl) .0 refl) refl refl);
+          };
+      short = short-table;
     }

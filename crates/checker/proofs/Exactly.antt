@@ -10,12 +10,11 @@ use native.Mathlib.Decide.{decLt}
 use lib.Dec.{T}
 use lib.ListN.{length, take}
 use Rattle.base.specs.Sets.{NoBitFrom}
-use Rattle.base.specs.Lists.{Each}
+use Rattle.base.specs.Lists.{Each, Bytes}
 use Rattle.base.specs.Tests.{pick, both}
 use Rattle.base.specs.Sizes.{LongEnough}
-use Rattle.base.specs.Shorter.{anyShort}
 use Rattle.base.proofs.Lists.{each-at, each-of}
-use Rattle.base.proofs.Sizes.{on-short}
+use Rattle.base.proofs.Sizes.{long-or-not}
 use Rattle.base.proofs.Tests.{T-true, true-T}
 use Rattle.base.proofs.Lowest.{Tells, fails, passes, lowest-wrong, none-wrong as none-lowest, wrong-none}
 use Rattle.reversal.specs.Device.{Device, Proper}
@@ -28,23 +27,24 @@ use Rattle.reversal.proofs.Reversals.{reverses↔, effective↔, accepts↔}
 use Rattle.reversal.proofs.Units.{item-all, items-all, items-first, units-to-failure, sum-next}
 use Rattle.book.specs.Book.{Book, deviceOf, AllowedBook, bytesOf, itemsOf}
 use Rattle.book.specs.Lent.{Lent, sizes}
-use Rattle.book.specs.Parse.{parse}
+use Rattle.book.specs.Refusal.{Refusal}
+use Rattle.book.specs.Parse.{Parsed, parse}
 use Rattle.book.specs.Parse.Parsed.{Ok, Refused}
 use Rattle.book.proofs.Device.{device-proper}
 use Rattle.book.proofs.Reading.{parse-fine}
 use Rattle.book.proofs.Refused.{refused-exactly}
 use Rattle.book.proofs.Codes.{refusal-codes}
-use Rattle.reader.specs.declared.Reading.{Reading}
 use Rattle.reader.specs.Reads.{refusal, done}
 use Rattle.reader.specs.Reads as reads
-use Rattle.reader.proofs.Ways.{Way, by-short, by-fault, by-book, way, when-short, when-faulty, when-fine}
+use Rattle.reader.specs.Contract.{filledBy}
+use Rattle.reader.proofs.Ways.{when-faulty, when-fine}
 use Rattle.reader.proofs.Exactly.{filled}
 use Rattle.checker.specs.declared.Reason.the-variants.{NoReversePlan, NotEffective}
 use Rattle.checker.specs.declared.Checking.{Checking}
 use Rattle.checker.specs.declared.Judgement.{Judgement}
 use Rattle.checker.specs.Reasons.{codeOf, Due}
-use Rattle.checker.specs.Checks.{placeOf, WrongFor, UnitsMade, withUnits, Checks, unread, wrong, fine}
-use Rattle.checker.specs.Contract.{wrongItem, reasonFor, reasonIn, judgementOf, unitsOf, onJudgement, judgedBy, checkBy, CheckAs}
+use Rattle.checker.specs.Checks.{AllAccepted, placeOf, WrongFor, UnitsMade, withUnits, Checks, unread, wrong, fine}
+use Rattle.checker.specs.Contract.{wrongItem, reasonFor, reasonIn, judgementOf, unitsOf, onJudgement, judgedBy, checkBy, CheckingOf, CheckAs}
 use Rattle.checker.proofs.Judging.{one-wrong, all-accepted as none-turned-down}
 
 -- ---- the judgement of a book, by its test
@@ -110,14 +110,14 @@ module _ (b : Book) (a : AllowedBook b) where
 
       up-to : unitsOf b ≡ sumUnits (b .n) (take i (itemsOf b)) + itemMade d x
       up-to =
-          items-first d (device-proper b a) (itemsOf b) i h (λ j l. true-T _ (passes test (length (itemsOf b)) j l (omega arith)))
+          items-first d (itemsOf b) i h (λ j l. true-T _ (passes test (length (itemsOf b)) j l (omega arith)))
           (fails test (length (itemsOf b)) h)
 
       go : (r : Bool) → reverses d x ≡ r → UnitsMade b i (pick r NotEffective NoReversePlan) (unitsOf b)
-      go true e = up-to ∙ rw (item-all d (device-proper b a) x (true-T _ e)) (sym (sum-next (b .n) (itemsOf b) i h))
+      go true e = up-to ∙ rw (item-all d x (true-T _ e)) (sym (sum-next (b .n) (itemsOf b) i h))
       go false e = (itemMade d x, units-to-failure d (device-proper b a) x (starts-states i h) e, up-to)
 
-  pub all-accepted : length (itemsOf b) ≤ wrongItem b → Each (Accepted (deviceOf b)) (itemsOf b)
+  pub all-accepted : length (itemsOf b) ≤ wrongItem b → AllAccepted b
   unfolding wrongItem
   all-accepted h = each-of (Accepted (deviceOf b)) (itemsOf b) absent (none-lowest _ (length (itemsOf b)) tells h)
 
@@ -129,45 +129,64 @@ module _ (b : Book) (a : AllowedBook b) where
   pub all-units : length (itemsOf b) ≤ wrongItem b → unitsOf b ≡ sumUnits (b .n) (itemsOf b)
   unfolding wrongItem
   all-units h =
-      items-all (deviceOf b) (device-proper b a) (itemsOf b)
+      items-all (deviceOf b) (itemsOf b)
       (each-of (λ x. T (accepts (deviceOf b) x)) (itemsOf b) absent (λ i l. true-T _ (passes (λ i. accepts (deviceOf b) (item (itemsOf b) i)) (length (itemsOf b)) i (omega arith) l)))
 
--- ---- the call
-module _ {s : List ℕ} {l : Lent} {r : Checking} {l′ : Lent} (c : CheckAs s l r l′) where
-  pub result-short : anyShort (sizes l) ≡ true → r ≡ withUnits (refusal 1 0) 0
-  unfolding checkBy
-  result-short h = c .result ∙ ap₂ withUnits (when-short s l refusal (judgedBy refusal done) h) (when-short s l (λ code place. 0) unitsOf h)
+-- ---- the ways of the bytes: a record is refused, an item is wrong, all are accepted
+pub data Way (s : List ℕ) : Type 0 where
+  by-fault : (code place : ℕ) → parse s ≡ Refused code place → Refusal s code place → Way s
+  by-item : (b : Book) → parse s ≡ Ok b → AllowedBook b → bytesOf b ≡ s → wrongItem b < length (itemsOf b) → Way s
+  by-book : (b : Book) → parse s ≡ Ok b → AllowedBook b → bytesOf b ≡ s → length (itemsOf b) ≤ wrongItem b → Way s
 
-  pub result-faulty : LongEnough (sizes l) → (code place : ℕ) → parse s ≡ Refused code place → r ≡ withUnits (refusal code place) 0
-  unfolding checkBy
-  result-faulty k code place e =
-      c .result
-      ∙ ap₂ withUnits (when-faulty s l refusal (judgedBy refusal done) k code place e) (when-faulty s l (λ code place. 0) unitsOf k code place e)
+pub way : (s : List ℕ) → Bytes s → Way s
+way s bytes = go (parse s) refl
+  where
+    judged : (b : Book) → parse s ≡ Ok b → AllowedBook b → bytesOf b ≡ s → Dec (wrongItem b < length (itemsOf b)) → Way s
+    judged b e a same (yes h) = by-item b e a same h
+    judged b e a same (no h) = by-book b e a same (omega arith)
 
-  result-book : LongEnough (sizes l) → (b : Book) → parse s ≡ Ok b → r ≡ withUnits (judgedBy refusal done b) (unitsOf b)
-  unfolding checkBy
-  result-book k b e = c .result ∙ ap₂ withUnits (when-fine s l refusal (judgedBy refusal done) k b e) (when-fine s l (λ code place. 0) unitsOf k b e)
+    go : (p : Parsed) → parse s ≡ p → Way s
+    go (Refused code place) e = by-fault code place e (refused-exactly s code place bytes .0 e)
+    go (Ok b) e = let (a, same) = parse-fine s b bytes e in judged b e a same (decLt (wrongItem b) (length (itemsOf b)))
 
-  pub result-wrong : LongEnough (sizes l) → (b : Book) → parse s ≡ Ok b → wrongItem b < length (itemsOf b)
+-- what each way gives a caller
+module _ {A : Type 0} (s : List ℕ) (refuse : ℕ → ℕ → A) (found : Book → A) where
+  pub check-faulty : {code place : ℕ} → parse s ≡ Refused code place → checkBy s refuse found ≡ refuse code place
+  unfolding checkBy
+  check-faulty e = when-faulty s refuse (judgedBy refuse found) e
+
+  pub check-wrong : (b : Book) → parse s ≡ Ok b → wrongItem b < length (itemsOf b)
+      → checkBy s refuse found ≡ refuse (codeOf (reasonIn b)) (placeOf b (wrongItem b))
+  unfolding checkBy
+  check-wrong b e h = when-fine s refuse (judgedBy refuse found) e ∙ by-wrong b h refuse (found b)
+
+  pub check-fine : (b : Book) → parse s ≡ Ok b → length (itemsOf b) ≤ wrongItem b → checkBy s refuse found ≡ found b
+  unfolding checkBy
+  check-fine b e h = when-fine s refuse (judgedBy refuse found) e ∙ by-none b h refuse (found b)
+
+-- and answers
+module _ {s : List ℕ} {r : Checking} (c : CheckingOf s r) where
+  pub result-faulty : {code place : ℕ} → parse s ≡ Refused code place → r ≡ withUnits (refusal code place) 0
+  result-faulty e = c .result ∙ ap₂ withUnits (check-faulty s refusal done e) (when-faulty s (λ code place. 0) unitsOf e)
+
+  pub result-wrong : (b : Book) → parse s ≡ Ok b → wrongItem b < length (itemsOf b)
       → r ≡ withUnits (refusal (codeOf (reasonIn b)) (placeOf b (wrongItem b))) (unitsOf b)
-  result-wrong k b e h = result-book k b e ∙ ap (λ (q : Reading). withUnits q (unitsOf b)) (by-wrong b h refusal (done b))
+  result-wrong b e h = c .result ∙ ap₂ withUnits (check-wrong s refusal done b e h) (when-fine s (λ code place. 0) unitsOf e)
 
-  pub result-fine : LongEnough (sizes l) → (b : Book) → parse s ≡ Ok b → length (itemsOf b) ≤ wrongItem b → r ≡ withUnits (done b) (unitsOf b)
-  result-fine k b e h = result-book k b e ∙ ap (λ (q : Reading). withUnits q (unitsOf b)) (by-none b h refusal (done b))
+  pub result-fine : (b : Book) → parse s ≡ Ok b → length (itemsOf b) ≤ wrongItem b → r ≡ withUnits (done b) (unitsOf b)
+  result-fine b e h = c .result ∙ ap₂ withUnits (check-fine s refusal done b e h) (when-fine s (λ code place. 0) unitsOf e)
 
-  pub checks : Checks s l r l′
-  checks = go (way s l)
-    where
-      judged : LongEnough (sizes l) → (b : Book) → parse s ≡ Ok b → AllowedBook b → bytesOf b ≡ s → Dec (wrongItem b < length (itemsOf b)) → Checks s l r l′
-      judged k b e a same (yes h) = wrong b (filled (c .buffers) k b a same e) (first-wrong b a h) (units-made b a h) (result-wrong k b e h)
-      judged k b e a same (no h) =
-          let none : length (itemsOf b) ≤ wrongItem b = omega arith in
-          fine b (record { filled = filled (c .buffers) k b a same e; accepted = all-accepted b a none })
-          (result-fine k b e none ∙ ap (withUnits (done b)) (all-units b a none))
+-- ---- the call
+pub checks : {s : List ℕ} {l : Lent} {r : Checking} {l′ : Lent} → CheckAs s l r l′ → Checks s l r l′
+checks {s} {l} {r} {l′} c = go (long-or-not (sizes l))
+  where
+    on-way : LongEnough (sizes l) → CheckingOf s r → l′ ≡ filledBy s l → Way s → Checks s l r l′
+    on-way h d k (by-fault code place e f) =
+        unread (reads.faulty h f refl (k ∙ when-faulty s _ _ e)) (λ z. omega (arith, refusal-codes s code place f)) (result-faulty d e)
+    on-way h d k (by-item b e a same w) = wrong b (filled k h a same e) (first-wrong b a w) (units-made b a w) (result-wrong d b e w)
+    on-way h d k (by-book b e a same w) =
+        fine b (record { filled = filled k h a same e; accepted = all-accepted b a w }) (result-fine d b e w ∙ ap (withUnits (done b)) (all-units b a w))
 
-      go : Way s l → Checks s l r l′
-      go (by-short h) = unread (reads.short (on-short (sizes l) h) refl (c .buffers ∙ when-short s l _ _ h)) (λ z. omega arith) (result-short h)
-      go (by-fault k code place e) =
-          let f = refused-exactly s code place (c .bytes) .0 e in
-          unread (reads.faulty k f refl (c .buffers ∙ when-faulty s l _ _ k code place e)) (λ z. omega (arith, refusal-codes s code place f)) (result-faulty k code place e)
-      go (by-book k b e) = let (a, same) = parse-fine s b (c .bytes) e in judged k b e a same (decLt (wrongItem b) (length (itemsOf b)))
+    go : Dec (LongEnough (sizes l)) → Checks s l r l′
+    go (no n) = let (e, k) = c .short n in unread (reads.short n refl k) (λ z. omega arith) e
+    go (yes h) = let (d, k) = c .enough h in on-way h d k (way s (c .bytes))

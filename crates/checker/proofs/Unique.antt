@@ -33,7 +33,7 @@ use Rattle.checker.specs.Checks.{AllAccepted, AcceptedBook, placeOf, Fir
 one-wrong : (b : Book) {i j : ℕ} → FirstWrong b i → FirstWrong b j → i ≡ j
 one-wrong b f g = one-lowest f g
 
-none-wrong : (b : Book) {i : ℕ} → FirstWrong b i → AllAccepted b → ⊥
+pub none-wrong : (b : Book) {i : ℕ} → FirstWrong b i → AllAccepted b → ⊥
 none-wrong b {i} f e = f .wrong (each-at (Accepted (deviceOf b)) (itemsOf b) e i absent (f .inside))
 
 -- an item has one reason at most, and a code one
@@ -49,7 +49,7 @@ same-code NoReversePlan NotEffective e = absurd (omega arith)
 same-code NotEffective NoReversePlan e = absurd (omega arith)
 same-code NotEffective NotEffective e = refl
 
-over-seven : (why : Reason) → 7 < codeOf why
+pub over-seven : (why : Reason) → 7 < codeOf why
 over-seven NoReversePlan = omega arith
 over-seven NotEffective = omega arith
 
@@ -60,7 +60,7 @@ no-reading NoReversePlan (inr e) = omega arith
 no-reading NotEffective (inr e) = omega arith
 
 -- the first wrong item is one, and so is its reason
-same-wrong : (b : Book) {i j : ℕ} {why other : Reason} → WrongFor b i why → WrongFor b j other → (i ≡ j) × (why ≡ other)
+pub same-wrong : (b : Book) {i j : ℕ} {why other : Reason} → WrongFor b i why → WrongFor b j other → (i ≡ j) × (why ≡ other)
 same-wrong b {i} {j} {why} {other} f g =
     let e : i ≡ j = one-wrong b (f .first) (g .first) in
     (e, due-unique (deviceOf b) (item (itemsOf b) j) why other (subst (λ (k : ℕ). Due why (deviceOf b) (item (itemsOf b) k)) e (f .due)) (g .due))

@@ -1,10 +1,11 @@
 -- Q's book checked, as bytes, with literal numbers: accepted; with the item of Q2 in place of item 1; with the items of Q3 and Q4, and others, behind
--- its items; and its device with weights, whose items stand 10 bytes further on.
+-- its items; and its device with weights, whose items stand 10 bytes further on. The same with a table as the only buffer, on a device of 4 states and 1
+-- command too.
 -- Assumes nothing: these are definitions.
 use mathlib.Core.Path.{_≡_}
 use mathlib.Core.List.{List, [], _∷_, _++_}
-use Prim.Native.Nat.{ℕ}
-use lib.ListN.{take, drop}
+use Prim.Native.Nat.{ℕ, _≤_}
+use lib.ListN.{length, getD, take, drop}
 use Rattle.base.specs.Sizes.{LongEnough}
 use Rattle.reversal.specs.Reversal.{Item}
 use Rattle.reversal.specs.Twelve.{made, itemQ2, itemQ3, itemQ4}
@@ -12,7 +13,9 @@ use Rattle.book.specs.Book.{frame, itemRec}
 use Rattle.book.specs.Lent.{Lent, sizes}
 use Rattle.book.specs.Example.{bytesQ, bytesDear}
 use Rattle.checker.specs.declared.Checking.{Checking}
+use Rattle.checker.specs.declared.TableChecking.{TableChecking}
 use Rattle.checker.specs.Checks.{Checks}
+use Rattle.checker.specs.TableChecks.{TableChecks}
 
 -- in buffers that are long enough, checking these bytes answers this
 pub record Judges (book : List ℕ) (answer : Checking) : Type 0 where
@@ -50,3 +53,28 @@ pub record QChecked : Type 0 where
   -- 02, of the weights: "filled wherever the table is", on 8 too
   pub dear-filled : {l : Lent} {r : Checking} {l′ : Lent} → Checks (bytesDear ++ recorded itemQ3) l r l′ → LongEnough (sizes l)
       → take 3 (l′ .weights) ≡ 300 ∷ 2 ∷ 1 ∷ []
+
+-- with a table as the only buffer, one that is long enough: the answer, and an entry of the table
+pub record TableGives (book : List ℕ) (answer : TableChecking) (entry mask : ℕ) : Type 0 where
+  pub result : {table : List ℕ} {r : TableChecking} {table′ : List ℕ} → TableChecks book table r table′ → 2048 ≤ length table
+      → (r ≡ answer) × (getD table′ entry 0 ≡ mask)
+
+-- and where nothing is read
+pub record TableKept (book : List ℕ) (answer : TableChecking) : Type 0 where
+  pub result : {table : List ℕ} {r : TableChecking} {table′ : List ℕ} → TableChecks book table r table′ → 2048 ≤ length table
+      → (r ≡ answer) × (table′ ≡ table)
+
+pub record TablesChecked : Type 0 where
+  -- entry 2 is that of state 0, command 2: outcomes 1 and 2
+  pub q1 : TableGives bytesQ (record { code = 0; place = 0; n = 3; m = 3 }) 2 6
+  -- "table .. read", on 8 and 12 too
+  pub q3 : TableGives (bytesQ ++ recorded itemQ3) (record { code = 8; place = 225; n = 0; m = 0 }) 2 6
+  pub q4 : TableGives (bytesQ ++ recorded itemQ4) (record { code = 12; place = 225; n = 0; m = 0 }) 2 6
+  -- n and m are told apart: 4 states, 1 command, one move, from 3 to 0
+  pub four-one : TableGives (2 ∷ 0 ∷ 1 ∷ 0 ∷ 4 ∷ 1 ∷ 10 ∷ 0 ∷ 2 ∷ 0 ∷ 3 ∷ 0 ∷ 1 ∷ 0 ∷ 0 ∷ 0 ∷ 0 ∷ 0 ∷ 0 ∷ 0 ∷ [])
+      (record { code = 0; place = 0; n = 4; m = 1 }) 3 1
+  -- Q without its last byte: its last item's record stands at 201
+  pub cut : TableKept (take 224 bytesQ) (record { code = 2; place = 201; n = 0; m = 0 })
+  -- a table of 2,047 entries, whatever the book is
+  pub short : {book table : List ℕ} {r : TableChecking} {table′ : List ℕ} → TableChecks book table r table′ → length table ≡ 2047
+      → (r ≡ record { code = 1; place = 0; n = 0; m = 0 }) × (table′ ≡ table)

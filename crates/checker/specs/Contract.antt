@@ -1,8 +1,8 @@
--- What checking answers, computed, over reading's chain of tests. proofs/Exactly ties it to specs/Checks. Assumes nothing: these are definitions.
+-- What checking answers, computed, over reading's chain of tests, of the bytes alone. proofs/Exactly ties it to specs/Checks. Assumes nothing: these are definitions.
 use mathlib.Core.Path.{_≡_}
-use mathlib.Core.Bool.{not}
+use mathlib.Core.Bool.{Bool, false, not}
 use mathlib.Core.List.{List}
-use Prim.Native.Nat.{ℕ, _+_, _*_, _≤_, _<_}
+use Prim.Native.Nat.{ℕ, suc, _-_, _≤_, _<_}
 use lib.ListN.{length, drop}
 use Rattle.base.specs.Lists.{Each}
 use Rattle.base.specs.Sizes.{LongEnough}
@@ -14,15 +14,15 @@ use Rattle.reversal.specs.Reversal.{Item}
 use Rattle.reversal.specs.Chains.{item}
 use Rattle.reversal.specs.Computed.Sets.{runsBack, reverses, accepts}
 use Rattle.reversal.specs.Computed.Units.{backUnits, itemsMade}
+use Rattle.states.specs.StateSets.{inLimits}
 use Rattle.moves.specs.Moves.{moved}
 use Rattle.book.specs.Book.{Book, deviceOf, AllowedBook, bytesOf, itemsOf}
 use Rattle.book.specs.Lent.{Lent, sizes}
 use Rattle.reader.specs.declared.Reading.{Reading}
 use Rattle.reader.specs.Reads.{refusal, done}
-use Rattle.reader.specs.Contract.{readBy, lentBy}
-use Rattle.checker.specs.declared.counted.Counted.{Counted}
-use Rattle.checker.specs.declared.Back.{Back}
+use Rattle.reader.specs.Contract.{bookBy, filledBy}
 use Rattle.checker.specs.declared.Checking.{Checking}
+use Rattle.checker.specs.declared.TableChecking.{TableChecking}
 use Rattle.checker.specs.declared.JudgementMade.{JudgementMade}
 use Rattle.checker.specs.declared.Reason.{Reason}
 use Rattle.checker.specs.declared.Reason.the-variants.{NoReversePlan, NotEffective}
@@ -30,15 +30,16 @@ use Rattle.checker.specs.declared.Judgement.{Judgement}
 use Rattle.checker.specs.declared.Judgement.the-variants.{AllAccepted, Wrong}
 use Rattle.checker.specs.Reasons.{codeOf}
 use Rattle.checker.specs.Checks.{placeOf, withUnits}
+use Rattle.checker.specs.TableChecks.{TableChecks}
 
--- what a reverse run answers
-abbrev pub backOf : Device → Counted → List ℕ → ℕ → Back
-backOf d from commands goal =
-    record { right = runsBack d (from .set .mask) commands goal; units = from .units + backUnits d (from .set .mask) commands }
+-- what a reverse run answers: 0 where it arrives, else 1 more than the number of commands that were not applied, those behind the one that couldn't be
+-- carried out
+unfoldable pub backOf : Device → ℕ → List ℕ → ℕ → ℕ
+backOf d w commands goal = pick (runsBack d w commands goal) 0 (suc (length commands) - backUnits d w commands)
 
--- the answer as one number
-unfoldable pub asNumber : Back → ℕ
-asNumber b = 2 * b .units + pick (b .right) 1 0
+-- whether it arrives; outside the limits of n and m it doesn't
+unfoldable pub returnsIn : Device → ℕ → List ℕ → ℕ → Bool
+returnsIn d w commands goal = pick (inLimits (d .n) (d .m)) (runsBack d w commands goal) false
 
 -- the lowest item that is not accepted, or their number
 unfoldable pub wrongItem : Book → ℕ
@@ -78,22 +79,32 @@ JudgedAs s d found r =
     (b : Book) → AllowedBook b → bytesOf b ≡ s → d ≡ deviceOf b → r ≡ withUnits (onJudgement (judgementOf b) refusal found) (unitsOf b)
 
 -- `refuse` with the first code and its place, `fine` with an accepted book
-unfoldable pub checkBy : {A : Type 0} → List ℕ → Lent → (ℕ → ℕ → A) → (Book → A) → A
-checkBy s l refuse fine = readBy s l refuse (judgedBy refuse fine)
+unfoldable pub checkBy : {A : Type 0} → List ℕ → (ℕ → ℕ → A) → (Book → A) → A
+checkBy s refuse fine = bookBy s refuse (judgedBy refuse fine)
 
 -- the units made: none where the book is not read
-abbrev pub unitsBy : List ℕ → Lent → ℕ
-unitsBy s l = readBy s l (λ code place. 0) unitsOf
+abbrev pub unitsBy : List ℕ → ℕ
+unitsBy s = bookBy s (λ code place. 0) unitsOf
+
+-- what checking answers for the bytes s where every lent buffer is long enough
+pub record CheckingOf (s : List ℕ) (r : Checking) : Type 0 where
+  pub bytes : Each (λ x. x < 256) s
+  pub result : r ≡ withUnits (checkBy s refusal done) (unitsBy s)
 
 -- the contract of `check`; the buffers are filled as by reading
 pub record CheckAs (s : List ℕ) (l : Lent) (r : Checking) (l′ : Lent) : Type 0 where
   pub bytes : Each (λ x. x < 256) s
-  pub result : r ≡ withUnits (checkBy s l refusal done) (unitsBy s l)
-  pub buffers : l′ ≡ lentBy s l
+  pub short : (LongEnough (sizes l) → ⊥) → (r ≡ withUnits (refusal 1 0) 0) × (l′ ≡ l)
+  pub enough : LongEnough (sizes l) → CheckingOf s r × (l′ ≡ filledBy s l)
 
--- the contract of `check_small`, with a scratch of 64 masks: in all buffers that are long enough `check` answers the same; where the book is accepted,
--- its device is in its moves and the scratch; what lies past the 64 stays
+-- the contract of `check_small`, with a scratch of 64 masks: where the book is accepted, its device is in its moves and the scratch; what lies past the 64
+-- stays
 pub record CheckSmallAs (s scratch : List ℕ) (r : Checking) (scratch′ : List ℕ) : Type 0 where
-  pub alike : 64 ≤ length scratch → (l : Lent) → LongEnough (sizes l) → CheckAs s l r (lentBy s l)
+  pub checking : 64 ≤ length scratch → CheckingOf s r
   pub device : 64 ≤ length scratch → r .code ≡ 0 → (b : Book) → AllowedBook b → bytesOf b ≡ s → moved s (b .n) (b .m) scratch′ ≡ deviceOf b
   pub rest : drop 64 scratch′ ≡ drop 64 scratch
+
+-- the contract of `check_table`
+pub record CheckTableAs (s table : List ℕ) (r : TableChecking) (table′ : List ℕ) : Type 0 where
+  pub bytes : Each (λ x. x < 256) s
+  pub says : TableChecks s table r table′

@@ -1,18 +1,15 @@
 // Checking a book: reading it, and judging its items one by one, with the units that this takes.
-mod counted;
-
-use counted::Counted;
 use reader::Reading;
 use states::StateSet;
 ghost use mathlib.Core.Path.{_≡_};
-ghost use Prim.Native.Nat.{_+_, _*_, _^_, _<_, _≤_};
+ghost use Prim.Native.Nat.{_≤_};
 ghost use Rattle.octets.specs.Le.{bytesLe};
 ghost use Rattle.states.specs.StateSets.{deviceIn};
 ghost use Rattle.book.specs.Book.{WellFormed};
 ghost use Rattle.book.specs.Lent.{lent};
 ghost use Rattle.checker.specs.Reasons.{codeOf};
 ghost use Rattle.checker.specs.Checks.{withUnits};
-ghost use Rattle.checker.specs.Contract.{backOf, asNumber, Judged, JudgedAs, CheckAs, CheckSmallAs};
+ghost use Rattle.checker.specs.Contract.{backOf, returnsIn, Judged, JudgedAs, CheckAs, CheckSmallAs, CheckTableAs};
 
 // Why an item is not accepted.
 pub enum Reason {
@@ -33,6 +30,14 @@ pub struct Checking {
     pub units: u64,
 }
 
+// What checking with a table as the only buffer answers: the code and its place; n and m, each 0 on a refusal.
+pub struct TableChecking {
+    pub code: u64,
+    pub place: u64,
+    pub n: u64,
+    pub m: u64,
+}
+
 // What the judgement of all items answers.
 pub enum Judgement {
     AllAccepted,
@@ -46,28 +51,12 @@ struct JudgementMade {
     units: u64,
 }
 
-// What a reverse run answers: whether it ends with the goal alone in the set, and the units so far.
-struct Back {
-    right: bool,
-    units: u64,
-}
-
-// The answer as one number: twice the units, and 1 more where it is right.
-fn as_number(right: bool, units: u64) -> u64
-    requires { ⌜ 2 * units + 1 < 2 ^ 64 ⌝ }
-    ensures { λ r. ⌜ r ≡ asNumber (record { right = right; units = units }) ⌝ }
-{
-    if right {
-        return 2 * units + 1;
-    }
-    2 * units
-}
-
 // A reverse run of the `left` commands that are the lowest bytes of `rest`: no command left and the goal alone in the set, or a next command that every
-// state of the set can carry out, with the rest run from the set after it. Its answer is a number and each slice is lent by a reference to it, so that
-// the compiler makes a loop of the recursion.
+// state of the set can carry out, with the rest run from the set after it. It answers 0 where it arrives, else 1 more than the number of commands behind
+// the one that couldn't be carried out. The answer is one number and each slice is lent by a reference to it, so that the compiler makes a loop of the
+// recursion.
 fn runs_on(
-    from: Counted,
+    set: StateSet,
     book: &&[u8],
     masks: &&[u64],
     tabled: bool,
@@ -77,29 +66,36 @@ fn runs_on(
     left: usize,
     goal: u64,
 ) -> u64
-    requires { ⌜ (n ≤ 64) × (m ≤ 32) × (goal < 64) × (2 * (from .units + left) + 1 < 2 ^ 64) ⌝ }
-    ensures { λ r. ⌜ r ≡ asNumber (backOf (deviceIn tabled (now (now (book .entry))) (now (now (masks .entry))) n m) from (bytesLe left rest) goal) ⌝ }
+    requires { ⌜ (n ≤ 64) × (m ≤ 32) ⌝ }
+    ensures { λ r. ⌜ r ≡ backOf (deviceIn tabled (now (now (book .entry))) (now (now (masks .entry))) n m) (set .mask) (bytesLe left rest) goal ⌝ }
 {
-    let set = from.set;
-    let units = from.units;
     if left == 0 {
-        return as_number(set.is_only(goal), units);
+        if set.is_only(goal) {
+            return 0;
+        }
+        return 1;
     }
-    let here = Counted {
-        set: set,
-        units: units,
-    };
-    let sent = here.sent(*book, *masks, tabled, n, m, rest % 256);
-    let next = sent.next;
+    let sent = set.sent(*book, *masks, tabled, n, m, rest % 256);
     if !sent.able {
-        return as_number(false, next.units);
+        return left as u64;
     }
-    runs_on(next, book, masks, tabled, n, m, rest / 256, left - 1, goal)
+    runs_on(
+        sent.set,
+        book,
+        masks,
+        tabled,
+        n,
+        m,
+        rest / 256,
+        left - 1,
+        goal,
+    )
 }
 
-// The same with the answer taken apart.
-fn runs_back(
-    from: Counted,
+// Whether a reverse run of the `left` commands that are the lowest bytes of `rest` arrives: from every state of the set they all can be carried out, and
+// lead to the goal alone. Outside the limits of n and m no run does.
+pub fn returns(
+    set: StateSet,
     book: &[u8],
     masks: &[u64],
     tabled: bool,
@@ -108,20 +104,22 @@ fn runs_back(
     rest: u64,
     left: usize,
     goal: u64,
-) -> Back
-    requires { ⌜ (n ≤ 64) × (m ≤ 32) × (goal < 64) × (2 * (from .units + left) + 1 < 2 ^ 64) ⌝ }
-    ensures { λ r. ⌜ r ≡ backOf (deviceIn tabled (now (book .entry)) (now (masks .entry)) n m) from (bytesLe left rest) goal ⌝ }
+) -> bool
+    ensures { λ r. ⌜ r ≡ returnsIn (deviceIn tabled (now (book .entry)) (now (masks .entry)) n m) (set .mask) (bytesLe left rest) goal ⌝ }
 {
-    let number = runs_on(from, &book, &masks, tabled, n, m, rest, left, goal);
-    Back {
-        right: number % 2 == 1,
-        units: number / 2,
+    if 64 < n {
+        return false;
     }
+    if 32 < m {
+        return false;
+    }
+    runs_on(set, &book, &masks, tabled, n, m, rest, left, goal) == 0
 }
 
 // The first item that is not accepted, from the book's bytes. For each start in psi, the ends in phi are run back together, and where there are
-// none the empty set, for its units alone; an item is effective if some start is used, that is, has an end. The search is left as soon as one
-// item fails. The commands each way are read as one number, of which each turn takes the lowest byte.
+// none the empty set; an item is effective if some start is used, that is, has an end. The search is left as soon as one item fails. A start takes a
+// unit for each of its commands that is applied: all of them, where it doesn't fail. The commands each way are read as one number, of which each turn
+// takes the lowest byte.
 fn first_wrong(book: &[u8], masks: &[u64], tabled: bool, n: u64, m: u64) -> JudgementMade
     requires { ⌜ (n ≤ 64) × (m ≤ 32) × WellFormed (now book) ⌝ }
     ensures { λ r. ⌜ Judged (now (book .entry)) (deviceIn tabled (now (book .entry)) (now (masks .entry)) n m) r ⌝ }
@@ -130,29 +128,29 @@ fn first_wrong(book: &[u8], masks: &[u64], tabled: bool, n: u64, m: u64) -> Judg
     let mut found = Judgement::AllAccepted;
     let mut units = 0;
     'items: while at < book.len() {
-        let item = items::item_at(book, at);
+        let item = items::parts_at(book, at);
+        let phi = items::phi(book, item);
+        let psi = items::psi(book, item);
         let forward = octets::u64_at(book, item.forward);
         let reverse = octets::u64_at(book, item.reverse);
         let mut used = false;
-        let mut starts = StateSet::of(item.psi).below(n);
+        let mut starts = StateSet::of(psi).below(n);
         while !starts.is_empty() {
             let start = starts.lowest();
-            let mut ends = Counted {
-                set: StateSet::of(0).add(start),
-                units: units,
-            };
+            let mut ends = StateSet::of(0).add(start);
             let mut rest = forward;
             for j in 0..item.k {
                 ends = ends.after(book, masks, tabled, n, m, rest % 256);
                 rest = rest / 256;
             }
-            ends = ends.within(item.phi);
-            let back = runs_back(ends, book, masks, tabled, n, m, reverse, item.r, start);
-            units = back.units;
-            let set = ends.set;
-            if !set.is_empty() {
+            ends = ends.within(phi);
+            let back = runs_on(ends, &book, &masks, tabled, n, m, reverse, item.r, start);
+            units = units + (item.k + item.r) as u64;
+            if !ends.is_empty() {
                 used = true;
-                if !back.right {
+                if back != 0 {
+                    // The commands behind the one that couldn't be carried out were not applied.
+                    units = units + 1 - back;
                     found = Judgement::Wrong(at as u64, Reason::NoReversePlan);
                     break 'items;
                 }
@@ -232,4 +230,35 @@ pub fn check_small(book: &[u8], scratch: &mut [u64]) -> Checking
     }
     moves::index(book, scratch);
     judge_items(book, scratch, false, found)
+}
+
+// The same with a table of at least 2,048 entries as the only buffer.
+pub fn check_table(book: &[u8], table: &mut [u64]) -> TableChecking
+    ensures { λ r. ⌜ CheckTableAs (now (book .entry)) (now (table .entry)) r (now (table .exit)) ⌝ }
+{
+    if table.len() < book::TABLE_LEN {
+        return TableChecking {
+            code: 1,
+            place: 0,
+            n: 0,
+            m: 0,
+        };
+    }
+    let found = reader::reading_of(book);
+    if found.code != 0 {
+        return TableChecking {
+            code: found.code,
+            place: found.place,
+            n: found.n,
+            m: found.m,
+        };
+    }
+    reader::fill_table(book, table);
+    let judged = judge_items(book, table, true, found);
+    TableChecking {
+        code: judged.code,
+        place: judged.place,
+        n: judged.n,
+        m: judged.m,
+    }
 }

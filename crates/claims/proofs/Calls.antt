@@ -1,7 +1,7 @@
 -- The claims of each call, of any routine that keeps the call's contract. Assumes nothing.
-use mathlib.Core.Path.{_≡_, subst, subst⁻¹, subst₂}
+use mathlib.Core.Path.{_≡_, refl, subst, subst⁻¹, subst₂}
 use mathlib.Core.List.{List}
-use Prim.Native.Nat.{ℕ}
+use Prim.Native.Nat.{ℕ, _≤_}
 use prog.Routine.{Routine}
 use lib.ListN.{length}
 use Rattle.base.specs.Lists.{Bytes, Written}
@@ -10,6 +10,11 @@ use Rattle.reversal.specs.Runs.{Run}
 use Rattle.book.specs.Lent.{Lent}
 use Rattle.book.specs.Example.{bytesQ}
 use Rattle.runs.specs.RunBytes.{runBytes}
+use Rattle.states.specs.StateSets.{outcomesIn, visitedIn, sentIn}
+use Rattle.states.specs.Visits.{VisitsPresent, SendsToPresent}
+use Rattle.states.proofs.Visits.{visit-present, sent-present}
+use Rattle.states.proofs.StateSet.visit as visit
+use Rattle.states.proofs.StateSet.sent as sent
 use Rattle.reader.specs.Contract.{ReadAs}
 use Rattle.reader.proofs.Exactly.{reads}
 use Rattle.reader.proofs.Unique.{zero↔ as read-zero↔}
@@ -19,26 +24,31 @@ use Rattle.checker.specs.declared.Reason.{Reason}
 use Rattle.checker.specs.declared.Reason.the-variants.{NoReversePlan, NotEffective}
 use Rattle.checker.specs.Reasons.{codeOf}
 use Rattle.checker.specs.Checks.{Checks}
-use Rattle.checker.specs.Contract.{CheckAs}
+use Rattle.checker.specs.Contract.{CheckAs, CheckTableAs}
 use Rattle.checker.proofs.Exactly.{checks}
 use Rattle.checker.proofs.Unique.{zero↔ as check-zero↔, wrong-for, checked-wrong}
+use Rattle.checker.proofs.TableChecks.{checks-table, table-checks-unique, table-zero↔}
 use Rattle.checker.proofs.check as check
+use Rattle.checker.proofs.check_table as check-table
 use Rattle.forecast.specs.Contract.{ForecastAs}
 use Rattle.forecast.proofs.Exactly.{forecasts}
 use Rattle.forecast.proofs.Unique.{zero↔ as forecast-zero↔, never, refused-zeros}
 use Rattle.forecast.proofs.Bounds.{units-bound, none-exceeds}
 use Rattle.forecast.proofs.forecast as forecast
+use Rattle.writer.specs.declared.Writing.{Writing}
+use Rattle.writer.specs.Writes.{Writes}
 use Rattle.writer.specs.Contract.{WriteAs}
 use Rattle.writer.proofs.Exactly.{writes}
 use Rattle.writer.proofs.RoundTrips.{writes-zero↔, write-well-formed, write-length}
 use Rattle.writer.proofs.write as write
+use Rattle.assembly.specs.Asked.{Asked, asked}
 use Rattle.assembly.specs.declared.Assembly.{Assembly}
 use Rattle.assembly.specs.Lent.{LegForm, inBytes, AllLent, allSizes}
 use Rattle.assembly.specs.Assembles.{Assembles}
 use Rattle.assembly.specs.Contract.{AssembleAs, SmallAs}
 use Rattle.assembly.proofs.Exactly.{even-bytes, assembles}
 use Rattle.assembly.proofs.Demand.{demand}
-use Rattle.assembly.proofs.Small.{assembles-small, small-demand, resultBy, leftBy, first-gives, small-gives}
+use Rattle.assembly.proofs.Small.{in-any, assembles-small, small-demand, resultBy, leftBy, first-gives, small-gives}
 use Rattle.assembly.proofs.assemble as assemble
 use Rattle.assembly.proofs.assemble_small as assemble-small
 use Rattle.lookups.specs.Rules.{DeviceRule, OutcomesOf, WorksOut}
@@ -67,8 +77,8 @@ use Rattle.report.specs.Contract.{ReportAs}
 use Rattle.report.proofs.Exactly.{reports}
 use Rattle.report.proofs.report as report
 use Rattle.claims.specs.Always.{Always}
-use Rattle.claims.specs.Claims.{onRead, onCheck, onForecast, onWrite, onAssemble, onSmall, onLegs, onLayOut, onLookup, onOutcomes, onReport, WellWritten, ReadClaims, ChecksWrong, CheckClaims, ForecastNumbers, NoneExceeds, ForecastClaims, WriteClaims, AssembleClaims, SmallClaims, EqualForms, LegsClaims, AsAssembling, PaperClaims, LookupClaims, RuleClaims, ConstantTable, RidgeTable, PortableTable, ReportClaims}
-use Rattle.claims.specs.Worked.{ChecksWorked, ForecastsWorked, AssemblesWorked, SmallWorked, PaperWorked}
+use Rattle.claims.specs.Claims.{onRead, onCheck, onCheckTable, onForecast, onWrite, onAssemble, onSmall, onLegs, onLayOut, onLookup, onOutcomes, onReport, WellWritten, ReadClaims, ChecksWrong, CheckClaims, AsChecking, CheckTableClaims, ForecastNumbers, NoneExceeds, ForecastClaims, WriteClaims, AssembleClaims, SmallClaims, EqualForms, LegsClaims, AsAssembling, PaperClaims, LookupClaims, RuleClaims, ConstantTable, RidgeTable, PortableTable, ReportClaims, onVisit, onSent, VisitClaims}
+use Rattle.claims.specs.Worked.{ChecksWorked, TableWorked, ForecastsWorked, AssemblesWorked, SmallWorked, PaperWorked, ReadsWorked, WritesWorked}
 use Rattle.claims.proofs.Weaker.{weaker}
 use Rattle.claims.proofs.RoundTrips.{read-back, write-back}
 use Rattle.claims.proofs.Foreseen.{units-foreseen}
@@ -91,6 +101,21 @@ equal-claims ρ σ first small =
       small = weaker assemble-small.ended σ (onSmall SmallAs) _ (λ κs a r e c. small-gives c) small;
     }
 
+-- what applies a command to a set, each routine by its own contract
+pub visit-claims : (ρ σ : Routine) → Always visit.ended ρ (onVisit outcomesIn (λ d c w r. r ≡ visitedIn d c w))
+    → Always sent.ended σ (onSent outcomesIn (λ d c w r. r ≡ sentIn d c w)) → VisitClaims ρ σ
+visit-claims ρ σ visits sends =
+    record {
+      outcomes = outcomesIn;
+      in-table = λ book table n m s c. refl;
+      visits =
+          weaker visit.ended ρ (onVisit outcomesIn (λ d c w r. r ≡ visitedIn d c w))
+          (onVisit outcomesIn (λ d c w r. d .n ≤ 64 → d .m ≤ 32 → VisitsPresent d c w r)) (λ κs a r e q hn hm. visit-present _ _ _ hn hm q) visits;
+      sends =
+          weaker sent.ended σ (onSent outcomesIn (λ d c w r. r ≡ sentIn d c w))
+          (onSent outcomesIn (λ d c w r. d .n ≤ 64 → d .m ≤ 32 → SendsToPresent d c w r)) (λ κs a r e q hn hm. sent-present _ _ _ hn hm q) sends;
+    }
+
 module _ (ρ : Routine) where
   pub read-claims : Always read.ended ρ (onRead ReadAs) → ReadClaims ρ
   read-claims always =
@@ -108,6 +133,16 @@ module _ (ρ : Routine) where
         eight = weaker check.ended ρ (onCheck CheckAs) _ (λ κs a r e c. checks-wrong NoReversePlan (c .bytes) (checks c)) always;
         twelve = weaker check.ended ρ (onCheck CheckAs) _ (λ κs a r e c. checks-wrong NotEffective (c .bytes) (checks c)) always;
         units-foreseen = weaker check.ended ρ (onCheck CheckAs) _ (λ κs a r e c. units-foreseen (c .bytes) (checks c)) always;
+      }
+
+  pub check-table-claims : Always check-table.ended ρ (onCheckTable CheckTableAs) → CheckTableClaims ρ
+  check-table-claims always =
+      record {
+        says = weaker check-table.ended ρ (onCheckTable CheckTableAs) _ (λ κs a r e c. c .says) always;
+        zero = weaker check-table.ended ρ (onCheckTable CheckTableAs) _ (λ κs a r e c. table-zero↔ (c .bytes) (c .says)) always;
+        as-checking =
+            weaker check-table.ended ρ (onCheckTable CheckTableAs) (onCheckTable AsChecking)
+            (λ κs a r e c slots weights q l′ x long enough. table-checks-unique (c .bytes) (c .says) (checks-table x long enough)) always;
       }
 
   pub forecast-claims : Always forecast.ended ρ (onForecast ForecastAs) → ForecastClaims ρ
@@ -192,23 +227,42 @@ module _ (ρ : Routine) where
 
 -- ---- the worked cases, of any routine that keeps the contract
 -- a run that was worked out, whatever bytes it came in
-worked-run : {E : Type 0} (form : LegForm E) {book run : List ℕ} {l : AllLent E} {r : Assembly} {l′ : AllLent E} → Assembles form book run l r l′
-    → AssemblesWorked form book run l r l′
-worked-run form {book = book} {l = l} {r} {l′} x =
+worked-run : {E : Type 0} (form : LegForm E) {ask : Asked} {l : AllLent E} {r : Assembly} {l′ : AllLent E} → Assembles form ask l r l′
+    → AssemblesWorked form ask l r l′
+worked-run form {ask = ask} {l = l} {r} {l′} x =
     record {
-      run-of = λ u a give e long. give .left (subst (λ (y : List ℕ). Assembles form book y l r l′) e x) long;
+      run-of = λ u a give e long. give .left (subst (λ (y : List ℕ). Assembles form (asked (ask .book) y) l r l′) e x) long;
       refused = λ code place gives long. gives .left x long;
     }
 
-worked-page : {u : Run} {text : List ℕ} → PageGiven u text → {book run : List ℕ} → book ≡ bytesQ → run ≡ runBytes u → {l : AllLent ℕ} {page : List ℕ}
-    {r : Paged} {l′ : AllLent ℕ} {page′ : List ℕ} → Pages book run l page r l′ page′ → LongEnough (allSizes inBytes l) → LongEnough (pageSizes page)
+worked-page : {u : Run} {text : List ℕ} → PageGiven u text → {ask : Asked} → ask .book ≡ bytesQ → ask .run ≡ runBytes u → {l : AllLent ℕ} {page : List ℕ}
+    {r : Paged} {l′ : AllLent ℕ} {page′ : List ℕ} → Pages ask l page r l′ page′ → LongEnough (allSizes inBytes l) → LongEnough (pageSizes page)
     → Written text page page′ × (r .length ≡ length text)
 worked-page given e f {l} {page} {r} {l′} {page′} x long enough =
-    given .written (subst₂ (λ (y z : List ℕ). Pages y z l page r l′ page′) e f x) long enough
+    given .written (subst₂ (λ (y z : List ℕ). Pages (asked y z) l page r l′ page′) e f x) long enough
+
+worked-writing : {n m items : ℕ} {l : Lent} {out : List ℕ} {r : Writing} {out′ : List ℕ} → Writes n m items l out r out′
+    → WritesWorked n m items l out r out′
+worked-writing {n} {m} {items} {l} {out} {r} {out′} x =
+    record {
+      written = λ answer book g e. g .result (subst (λ (o : List ℕ). Writes n m items l o r out′) e x);
+      refused = λ answer g e. g .result (subst (λ (o : List ℕ). Writes n m items l o r out′) e x);
+    }
 
 module _ (ρ : Routine) where
+  pub read-worked : Always read.ended ρ (onRead ReadAs) → Always read.ended ρ (onRead ReadsWorked)
+  read-worked = weaker read.ended ρ (onRead ReadAs) (onRead ReadsWorked) (λ κs a r e c answer gives stated. gives .result (reads c) stated)
+
+  pub write-worked : Always write.ended ρ (onWrite WriteAs) → Always write.ended ρ (onWrite WritesWorked)
+  write-worked = weaker write.ended ρ (onWrite WriteAs) (onWrite WritesWorked) (λ κs a r e c. worked-writing (writes c))
+
   pub check-worked : Always check.ended ρ (onCheck CheckAs) → Always check.ended ρ (onCheck ChecksWorked)
   check-worked = weaker check.ended ρ (onCheck CheckAs) (onCheck ChecksWorked) (λ κs a r e c answer judges long. judges .result (checks c) long)
+
+  pub table-worked : Always check-table.ended ρ (onCheckTable CheckTableAs) → Always check-table.ended ρ (onCheckTable TableWorked)
+  table-worked =
+      weaker check-table.ended ρ (onCheckTable CheckTableAs) (onCheckTable TableWorked)
+      (λ κs a r e c. record { read = λ answer entry mask gives long. gives .result (c .says) long; kept = λ answer keeps long. keeps .result (c .says) long })
 
   pub forecast-worked : Always forecast.ended ρ (onForecast ForecastAs) → Always forecast.ended ρ (onForecast ForecastsWorked)
   forecast-worked =
@@ -222,7 +276,7 @@ module _ (ρ : Routine) where
   pub small-worked : Always assemble-small.ended ρ (onSmall SmallAs) → Always assemble-small.ended ρ (onSmall SmallWorked)
   small-worked =
       weaker assemble-small.ended ρ (onSmall SmallAs) (onSmall SmallWorked)
-      (λ κs a r e c long l enough. (_, worked-run inBytes (assembles even-bytes (c .alike long l enough))))
+      (λ κs a r e c long l enough. (_, worked-run inBytes (assembles even-bytes (in-any (c .enough long) (long .0, (long .1 .0, tt)) l enough))))
 
   pub legs-worked : Always assemble-legs.ended ρ (onLegs (AssembleAs inStructs)) → Always assemble-legs.ended ρ (onLegs (AssemblesWorked inStructs))
   legs-worked =

@@ -2,30 +2,40 @@
 use mathlib.Core.Path.{_≡_, refl, sym, ap, _∙_, subst, subst⁻¹, subst₂}
 use mathlib.Core.Bool.{Bool, true, false}
 use mathlib.Core.Logic.{_⊎_}
-use mathlib.Core.List.{List, [], _∷_}
+use mathlib.Core.List.{List, [], _∷_, map}
 use Prim.Native.Nat.{ℕ, suc, _+_, _*_, _/_, _%_, _≤_, _<_}
 use native.Mathlib.Decide.{decLt}
 use native.Mathlib.Omega.{arith}
 use prog.Routine.{Routine}
 use lib.Dec.{eqb}
 use lib.ListN.{length, getD, take}
-use lib.Seq.{ext-getD}
+use lib.Seq.{ext-getD, getD-take}
 use Rattle.base.specs.Tests.{pick}
 use Rattle.base.specs.Sizes.{LongEnough}
-use Rattle.base.proofs.Lists.{stored}
+use Rattle.base.proofs.Lists.{each-at, stored}
 use Rattle.reversal.specs.Reversal.{Reverses}
-use Rattle.reversal.specs.Runs.{Run}
-use Rattle.reversal.specs.Chains.{item, Undoes}
-use Rattle.book.specs.Book.{Book, deviceOf, itemsOf}
-use Rattle.book.specs.Lent.{Lent}
+use Rattle.reversal.specs.Runs.{Run, last}
+use Rattle.reversal.specs.Chains.{item, legsOf, Undoes}
+use Rattle.book.specs.Book.{Book, deviceOf, itemsOf, itemsFor, AllowedBook, bytesOf, WellFormed}
+use Rattle.book.specs.Lent.{Lent, sizes}
+use Rattle.book.specs.Example.{bookQ, bytesQ}
+use Rattle.reader.specs.declared.Reading.{Reading}
+use Rattle.reader.proofs.read as read
 use Rattle.checker.specs.declared.Checking.{Checking}
+use Rattle.checker.specs.declared.Reason.{Reason}
 use Rattle.checker.specs.declared.Reason.the-variants.{NotEffective}
-use Rattle.checker.specs.Checks.{WrongFor}
+use Rattle.checker.specs.Reasons.{codeOf, Due}
+use Rattle.checker.specs.Checks.{AcceptedBook, WrongFor}
+use Rattle.checker.proofs.Cases.{accepted-Q}
+use Rattle.checker.proofs.check as check
 use Rattle.forecast.specs.declared.Forecasted.{Forecasted}
 use Rattle.forecast.specs.Forecasts.{Forecasts}
+use Rattle.forecast.proofs.forecast as forecast
+use Rattle.writer.proofs.write as write
 use Rattle.assembly.specs.declared.Assembly.{Assembly}
-use Rattle.assembly.specs.Lent.{LegForm, inBytes, Room, AllLent, allSizes}
-use Rattle.assembly.specs.Demand.{Given, Demand}
+use Rattle.assembly.specs.Lent.{legsBytes, LegForm, inBytes, Room, AllLent, allSizes}
+use Rattle.assembly.specs.Asked.{Asked}
+use Rattle.assembly.specs.Demand.{Given, Planned, Demand}
 use Rattle.assembly.specs.Small.{smallSizes, SmallDemand}
 use Rattle.assembly.proofs.DemandUnique.{same-given}
 use Rattle.assembly.proofs.assemble as assemble
@@ -33,55 +43,125 @@ use Rattle.assembly.proofs.assemble_small as assemble-small
 use Rattle.lookups.specs.Rules.{DeviceRule, OutcomesOf}
 use Rattle.lookups.specs.Lookup.{filled, emptyIn}
 use Rattle.paper.specs.declared.Paged.{Paged}
-use Rattle.paper.specs.Taken.{commandsOn, down}
-use Rattle.paper.specs.Pages.{pageSizes, linesOn, PageDemand, TakenDown}
-use Rattle.report.specs.Prints.{Prints, Reports}
+use Rattle.paper.specs.Layout.{pageOf}
+use Rattle.paper.specs.Taken.{onLine, legOn, commandsOn, down}
+use Rattle.paper.specs.Pages.{pageSizes, upFrom, linesOn, PageDemand, TakenDown}
+use Rattle.planner.specs.Structs.{inStructs}
+use Rattle.planner.proofs.rollback_assemble_legs as assemble-legs
+use Rattle.report.specs.Prints.{zeros, Prints, Reports}
+use Rattle.report.proofs.Exactly.{zeros-long}
 use Rattle.claims.specs.Always.{Always}
-use Rattle.claims.specs.Claims.{onAssemble, onSmall, UnitsForeseen, ForecastNumbers, EqualForms, ConstantTable}
+use Rattle.claims.specs.Claims.{onRead, onCheck, onForecast, onWrite, onAssemble, onSmall, onLegs, ReadsZero, ChecksZero, ForecastsZero, WellWritten, ReadClaims, CheckClaims, ForecastClaims, WriteClaims, PlanUndoes, SmallUndoes, AssembleClaims, LegsClaims, SmallClaims, GivenBack, ChecksWrong, UnitsForeseen, ForecastNumbers, EqualForms, ConstantTable}
 use Rattle.claims.proofs.Weaker.{weaker}
+
+formed-Q : WellFormed bytesQ
+formed-Q = (bookQ, accepted-Q .allowed, accepted-Q .bytes)
 
 -- ---- assembling
 
 -- on code 0 the bytes in the plan undo the run
-pub whole-plan : {E : Type 0} (form : LegForm E) {book run : List ℕ} {l : AllLent E} {r : Assembly} {l′ : AllLent E} → Demand form book run l r l′
-    → r .code ≡ 0 → {b : Book} {u : Run} → Given book run b u → Undoes (deviceOf b) u (take (r .commands) (l′ .room .plan))
+pub whole-plan : {E : Type 0} (form : LegForm E) {ask : Asked} {l : AllLent E} {r : Assembly} {l′ : AllLent E} → Demand form ask l r l′
+    → r .code ≡ 0 → {b : Book} {u : Run} → Given ask b u → Undoes (deviceOf b) u (take (r .commands) (l′ .room .plan))
 whole-plan form {r = r} {l′} x z {b} {u} g =
     let (b′, (u′, g′, p)) = x .plan-given z in
     let (e, f) = same-given g′ g in
     subst₂ (λ (y : Book) (v : Run). Undoes (deviceOf y) v (take (r .commands) (l′ .room .plan))) e f (p .undoes)
 
 -- and so do the commands taken down the page
-pub page-undoes : {book run : List ℕ} {l : AllLent ℕ} {page : List ℕ} {r : Paged} {l′ : AllLent ℕ} {page′ : List ℕ} → PageDemand book run l page r l′ page′
-    → TakenDown r l′ page′ → LongEnough (pageSizes page) → r .assembly .code ≡ 0 → {b : Book} {u : Run} → Given book run b u
+pub page-undoes : {ask : Asked} {l : AllLent ℕ} {page : List ℕ} {r : Paged} {l′ : AllLent ℕ} {page′ : List ℕ} → PageDemand ask l page r l′ page′
+    → TakenDown r l′ page′ → LongEnough (pageSizes page) → r .assembly .code ≡ 0 → {b : Book} {u : Run} → Given ask b u
     → Undoes (deviceOf b) u (down commandsOn (linesOn r page′))
 page-undoes x t long z {b} {u} g = subst⁻¹ (Undoes (deviceOf b) u) (t .commands) (whole-plan inBytes (x .enough long) z g)
 
 -- a plan, or that there is no chain, is answered with a scratch that is long enough alone
-pub scratch-long : {book run scratch : List ℕ} {room : Room ℕ} {r : Assembly} {scratch′ : List ℕ} {room′ : Room ℕ}
-    → SmallDemand book run scratch room r scratch′ room′ → (r .code ≡ 1 → ⊥) → 64 ≤ length scratch
+pub scratch-long : {ask : Asked} {scratch : List ℕ} {room : Room ℕ} {r : Assembly} {scratch′ : List ℕ} {room′ : Room ℕ}
+    → SmallDemand ask scratch room r scratch′ room′ → (r .code ≡ 1 → ⊥) → 64 ≤ length scratch
 scratch-long {scratch = scratch} x n = go (decLt (length scratch) 64)
   where
     go : Dec (length scratch < 64) → 64 ≤ length scratch
     go (yes h) = absurd (n (x .short-scratch h))
     go (no h) = omega arith
 
+-- with a scratch the bytes in the plan undo the run too
+pub small-undoes : {ask : Asked} {scratch : List ℕ} {room : Room ℕ} {r : Assembly} {scratch′ : List ℕ} {room′ : Room ℕ}
+    → SmallDemand ask scratch room r scratch′ room′ → r .code ≡ 0 → {b : Book} {u : Run} → Given ask b u
+    → Undoes (deviceOf b) u (take (r .commands) (room′ .plan))
+small-undoes x z g =
+    whole-plan inBytes (x .as-first (scratch-long x (λ e. omega (arith, z, e))) (zeros .read) (zeros-long .1 .1) .1) z g
+
+-- the page is the text of the chain whose plan was written
+pub page-of-chain : {ask : Asked} {l : AllLent ℕ} {page : List ℕ} {r : Paged} {l′ : AllLent ℕ} {page′ : List ℕ} → PageDemand ask l page r l′ page′
+    → LongEnough (pageSizes page) → r .assembly .code ≡ 0 → (b : Book) × ((u : Run) × ((p : Planned inBytes b u (r .assembly) (l′ .room))
+    × (take (r .length) page′ ≡ pageOf (itemsFor b) (legsOf (itemsFor b) (last u) (p .items)))))
+page-of-chain x h z = let (b, (u, g, p)) = x .enough h .plan-given z in (b, (u, (p, x .chain-laid z b u g p)))
+
+-- on a page that is too short there is no plan
+pub no-plan-on-short : {ask : Asked} {l : AllLent ℕ} {page : List ℕ} {r : Paged} {l′ : AllLent ℕ} {page′ : List ℕ} → PageDemand ask l page r l′ page′
+    → (LongEnough (pageSizes page) → ⊥) → r .assembly .code ≡ 0 → ⊥
+no-plan-on-short x h z = omega (arith, z, x .short h)
+
+-- the lines of the page: 40 characters each, 41 bytes of text for each leg, the first one numbered 1, each with the count of its commands, and its
+-- legs are the chain's
+module _ {r : Paged} {l′ : AllLent ℕ} {page′ : List ℕ} (t : TakenDown r l′ page′) where
+  pub lines-wide : (i : ℕ) → i < length (linesOn r page′) → length (getD (linesOn r page′) i []) ≡ 40
+  lines-wide i h = each-at (λ line. length line ≡ 40) (linesOn r page′) (t .wide) i [] h
+
+  pub page-fits : r .assembly .legs ≤ 32 → r .length ≤ 1312
+  page-fits h = omega (arith, t .long)
+
+  pub first-numbered : (n : ℕ) → r .assembly .legs ≡ suc n → getD (down (onLine 0) (linesOn r page′)) 0 0 ≡ 1
+  unfolding upFrom
+  first-numbered n e = ap (λ (xs : List ℕ). getD xs 0 0) (t .numbered ∙ ap (upFrom 1) e)
+
+  pub counts-on-lines : (i : ℕ) → getD (down (onLine 4) (linesOn r page′)) i 0 ≡ getD (map (λ line. length (commandsOn line)) (linesOn r page′)) i 0
+  counts-on-lines i = ap (λ (xs : List ℕ). getD xs i 0) (t .counted)
+
+  pub legs-on-page : {b : Book} {u : Run} (p : Planned inBytes b u (r .assembly) (l′ .room))
+      → down legOn (linesOn r page′) ≡ legsBytes (legsOf (itemsFor b) (last u) (p .items))
+  legs-on-page p = t .legs ∙ p .legs-written
+
 -- plan and legs of both forms are one function of what is lent
-pub equal-rooms : {ρ σ : Routine} → EqualForms ρ σ → (left : List ℕ → List ℕ → Room ℕ → Room ℕ)
-    × Always assemble.ended ρ (onAssemble (λ book run l r l′. LongEnough (allSizes inBytes l) → l′ .room ≡ left book run (l .room)))
-    × Always assemble-small.ended σ (onSmall (λ book run scratch room r scratch′ room′. LongEnough (smallSizes scratch room)
-    → room′ ≡ left book run room))
+pub equal-rooms : {ρ σ : Routine} → EqualForms ρ σ → (left : Asked → Room ℕ → Room ℕ)
+    × Always assemble.ended ρ (onAssemble (λ ask l r l′. LongEnough (allSizes inBytes l) → l′ .room ≡ left ask (l .room)))
+    × Always assemble-small.ended σ (onSmall (λ ask scratch room r scratch′ room′. LongEnough (smallSizes scratch room)
+    → room′ ≡ left ask room))
 equal-rooms {ρ} {σ} e = (
   e .left,
   weaker assemble.ended ρ
-      (onAssemble (λ book run l r l′. LongEnough (allSizes inBytes l) → (r ≡ e .result book run (l .room)) × (l′ .room ≡ e .left book run (l .room))))
-      (onAssemble (λ book run l r l′. LongEnough (allSizes inBytes l) → l′ .room ≡ e .left book run (l .room))) (λ κs a r x c long. c long .1) (e .first),
+      (onAssemble (λ ask l r l′. LongEnough (allSizes inBytes l) → (r ≡ e .result ask) × (l′ .room ≡ e .left ask (l .room))))
+      (onAssemble (λ ask l r l′. LongEnough (allSizes inBytes l) → l′ .room ≡ e .left ask (l .room))) (λ κs a r x c long. c long .1) (e .first),
   weaker assemble-small.ended σ
-      (onSmall (λ book run scratch room r scratch′ room′. LongEnough (smallSizes scratch room) → (r ≡ e .result book run room) × (room′ ≡ e .left book run room)))
-      (onSmall (λ book run scratch room r scratch′ room′. LongEnough (smallSizes scratch room) → room′ ≡ e .left book run room))
+      (onSmall (λ ask scratch room r scratch′ room′. LongEnough (smallSizes scratch room) → (r ≡ e .result ask) × (room′ ≡ e .left ask room)))
+      (onSmall (λ ask scratch room r scratch′ room′. LongEnough (smallSizes scratch room) → room′ ≡ e .left ask room))
       (λ κs a r x c long. c long .1) (e .small),
 )
 
 -- ---- checking
+
+-- 8 says that some item is no conditional reverse plan, 12 that some item can never be used; and a book with a wrong item is not accepted
+pub wrong-item : {why : Reason} {book : List ℕ} {l : Lent} {r : Checking} {l′ : Lent} → ChecksWrong (codeOf why) why book l r l′ → r .code ≡ codeOf why
+    → (b : Book) × ((i : ℕ) × ((bytesOf b ≡ book) × Due why (deviceOf b) (item (itemsOf b) i)))
+wrong-item x z = let (_, (b, a, e, (i, w))) = x .only z in (b, (i, (e, w .due)))
+
+pub wrong-not-passed : {why : Reason} {book : List ℕ} {l : Lent} {r : Checking} {l′ : Lent} → ChecksWrong (codeOf why) why book l r l′
+    → LongEnough (sizes l) → (b : Book) → AllowedBook b → bytesOf b ≡ book → (i : ℕ) → WrongFor b i why → r .code ≡ codeOf why
+wrong-not-passed x long b a e i w = let (units, made, q) = x .always long b a e i w in ap (λ (y : Checking). y .code) q
+
+-- the units foreseen are the same for every length of run
+pub units-one : {book : List ℕ} {l : Lent} {r : Checking} {l′ : Lent} {i j : ℕ} {p q : Forecasted} → UnitsForeseen book l r l′ → r .code ≡ 0
+    → Forecasts book i p → p .code ≡ 0 → Forecasts book j q → q .code ≡ 0 → p .units ≡ q .units
+units-one {i = i} {j} {p} {q} x z f y g w = sym (x .equal z i p f y) ∙ x .equal z j q g w
+
+-- where a unit was made some item was judged, and where one is foreseen the forecast answers 0
+pub unit-made : {book : List ℕ} {l : Lent} {r : Checking} {l′ : Lent} → UnitsForeseen book l r l′ → 0 < r .units
+    → (r .code ≡ 0 → ⊥) → (r .code ≡ 8 → ⊥) → (r .code ≡ 12 → ⊥) → ⊥
+unit-made x h a b c = omega (arith, h, x .none a b c)
+
+pub unit-foreseen : {book : List ℕ} {i : ℕ} {q : Forecasted} → ForecastNumbers book i q → 0 < q .units → (q .code ≡ 0 → ⊥) → ⊥
+unit-foreseen x h n = omega (arith, h, x .zeros n .0)
+
+pub forecast-no-buffer : {book : List ℕ} {i : ℕ} {q : Forecasted} → ForecastNumbers book i q → q .code ≡ 1 → ⊥
+forecast-no-buffer x = x .never .0
 
 -- no check makes more than 65,536 units
 pub units-most : {book : List ℕ} {l : Lent} {r : Checking} {l′ : Lent} {i : ℕ} {q : Forecasted} → UnitsForeseen book l r l′ → Forecasts book i q
@@ -91,6 +171,16 @@ units-most {i = i} {q} x f y z = omega (arith, x .at-most i q f z, y .at-most)
 -- an item that is refused with 12 is accepted by the rule before 02
 pub old-rule : {b : Book} {i : ℕ} → WrongFor b i NotEffective → Reverses (deviceOf b) (item (itemsOf b) i)
 old-rule w = w .due .reverse-plan
+
+-- ---- the round trip
+-- each byte of each slot and each weight that was written is read back
+pub each-back : {n m items : ℕ} {l : Lent} {r : Reading} {l′ : Lent} → GivenBack n m items l r l′
+    → ((i : ℕ) → i < 34 * items → getD (l′ .slots) i 0 ≡ getD (l .slots) i 0) × ((i : ℕ) → i < m → getD (l′ .weights) i 0 ≡ getD (l .weights) i 0)
+each-back {n} {m} {items} {l} {r} {l′} x = (
+  λ i h.
+      sym (getD-take (34 * items) (l′ .slots) i 0 h) ∙ (ap (λ (xs : List ℕ). getD xs i 0) (x .slots-same) ∙ getD-take (34 * items) (l .slots) i 0 h),
+  λ i h. sym (getD-take m (l′ .weights) i 0 h) ∙ (ap (λ (xs : List ℕ). getD xs i 0) (x .weights-same) ∙ getD-take m (l .weights) i 0 h),
+)
 
 -- ---- the program
 
@@ -122,3 +212,39 @@ module _ (d : DeviceRule) {not-empty : ℕ} {table : List ℕ} (c : ConstantTabl
   printed-table printed size each =
       ext-getD 0 table printed (c .equals-rule .size ∙ sym size)
       (λ e h. let l : e < d .n * d .m = subst (λ (k : ℕ). e < k) (c .equals-rule .size) h in c .generated e (getD printed e 0) l (each e l))
+
+-- ---- of a routine with the claims of its call, whatever it is passed
+
+-- Q is read, accepted and foreseen
+pub reads-Q : (ρ : Routine) → ReadClaims ρ → Always read.ended ρ (onRead (λ book l r l′. book ≡ bytesQ → LongEnough (sizes l) → r .code ≡ 0))
+reads-Q ρ c =
+    weaker read.ended ρ (onRead ReadsZero) (onRead (λ book l r l′. book ≡ bytesQ → LongEnough (sizes l) → r .code ≡ 0))
+    (λ κs a r e z same long. z .1 (long, subst⁻¹ WellFormed same formed-Q)) (c .zero)
+
+pub checks-Q : (ρ : Routine) → CheckClaims ρ → Always check.ended ρ (onCheck (λ book l r l′. book ≡ bytesQ → LongEnough (sizes l) → r .code ≡ 0))
+checks-Q ρ c =
+    weaker check.ended ρ (onCheck ChecksZero) (onCheck (λ book l r l′. book ≡ bytesQ → LongEnough (sizes l) → r .code ≡ 0))
+    (λ κs a r e z same long. z .1 (long, (bookQ, subst⁻¹ (λ (s : List ℕ). AcceptedBook s bookQ) same accepted-Q))) (c .zero)
+
+pub foresees-Q : (ρ : Routine) → ForecastClaims ρ → Always forecast.ended ρ (onForecast (λ book i r. book ≡ bytesQ → i ≤ 32 → r .code ≡ 0))
+foresees-Q ρ c =
+    weaker forecast.ended ρ (onForecast ForecastsZero) (onForecast (λ book i r. book ≡ bytesQ → i ≤ 32 → r .code ≡ 0))
+    (λ κs a r e z same few. z .1 (subst⁻¹ WellFormed same formed-Q, few)) (c .zero)
+
+-- what is written is at most 31,178 bytes
+pub writes-most : (ρ : Routine) → WriteClaims ρ → Always write.ended ρ (onWrite (λ n m items l out r out′. r .code ≡ 0 → r .length ≤ 31178))
+writes-most ρ c =
+    weaker write.ended ρ (onWrite WellWritten) (onWrite (λ n m items l out r out′. r .code ≡ 0 → r .length ≤ 31178)) (λ κs a r e w z. w z .1)
+    (c .well-formed)
+
+-- on code 0 the bytes in the plan undo the run, in every form
+pub undoing : (ρ : Routine) → AssembleClaims ρ → Always assemble.ended ρ (onAssemble PlanUndoes)
+undoing ρ c = weaker assemble.ended ρ (onAssemble (Demand inBytes)) (onAssemble PlanUndoes) (λ κs a r e x z b u g. whole-plan inBytes x z g) (c .demand-three)
+
+pub undoing-legs : (ρ : Routine) → LegsClaims ρ → Always assemble-legs.ended ρ (onLegs PlanUndoes)
+undoing-legs ρ c =
+    weaker assemble-legs.ended ρ (onLegs (Demand inStructs)) (onLegs PlanUndoes) (λ κs a r e x z b u g. whole-plan inStructs x z g) (c .demand-three)
+
+pub undoing-small : (ρ : Routine) → SmallClaims ρ → Always assemble-small.ended ρ (onSmall SmallUndoes)
+undoing-small ρ c =
+    weaker assemble-small.ended ρ (onSmall SmallDemand) (onSmall SmallUndoes) (λ κs a r e x z b u g. small-undoes x z g) (c .demand-three)

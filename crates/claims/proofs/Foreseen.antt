@@ -23,6 +23,7 @@ use Rattle.checker.proofs.Unique.{zero↔, no-units, units-within, checked-fine
 use Rattle.forecast.specs.declared.Forecasted.{Forecasted}
 use Rattle.forecast.specs.Forecasts.{Forecasts, faulty, long, fine}
 use Rattle.forecast.proofs.Bounds.{none-exceeds}
+use Rattle.assembly.specs.Asked.{Asked}
 use Rattle.assembly.specs.declared.Assembly.{Assembly}
 use Rattle.assembly.specs.Lent.{LegForm, AllLent}
 use Rattle.assembly.specs.Assembles.{Assembles, short, unaccepted, answered}
@@ -62,10 +63,10 @@ commands-at : (u : Run) → getD (runBytes u) 4 0 ≡ last u
 unfolding frame bytesLe
 commands-at u = refl
 
-pub plans-foreseen : {E : Type 0} {form : LegForm E} {book run : List ℕ} {i : ℕ} {f : Forecasted} {l : AllLent E} {r : Assembly} {l′ : AllLent E}
-    → Forecasts book i f → f .code ≡ 0 → (u : Run) → runBytes u ≡ run → last u ≡ i → Assembles form book run l r l′
+pub plans-foreseen : {E : Type 0} {form : LegForm E} {ask : Asked} {i : ℕ} {f : Forecasted} {l : AllLent E} {r : Assembly} {l′ : AllLent E}
+    → Forecasts (ask .book) i f → f .code ≡ 0 → (u : Run) → runBytes u ≡ ask .run → last u ≡ i → Assembles form ask l r l′
     → (r .commands ≤ f .«plan_bytes») × (r .legs ≤ f .legs)
-plans-foreseen {form = form} {book} {run} {i} {f} {l} {r} {l′} x z u e n y = go y
+plans-foreseen {form = form} {ask} {i} {f} {l} {r} {l′} x z u e n y = go y
   where
     none : (r .code ≡ 0 → ⊥) → (r .commands ≤ f .«plan_bytes») × (r .legs ≤ f .legs)
     none q = let (c, k, s) = none-counted y q in (omega arith, omega arith)
@@ -76,7 +77,7 @@ plans-foreseen {form = form} {book} {run} {i} {f} {l} {r} {l′} x z u e n y = g
     at : {a b : Answer} → r ≡ assembles.resultOf a → a ≡ b → r ≡ assembles.resultOf b
     at p q = p ∙ ap assembles.resultOf q
 
-    go : Assembles form book run l r l′ → (r .commands ≤ f .«plan_bytes») × (r .legs ≤ f .legs)
+    go : Assembles form ask l r l′ → (r .commands ≤ f .«plan_bytes») × (r .legs ≤ f .legs)
     go (short a q k) = none (λ c. omega (arith, code-of q))
     go (unaccepted enough c m q k) = none (λ d. m (sym (code-of q) ∙ d))
     go (assembles.faulty enough b k m q w) = none (λ c. omega (arith, code-of q))

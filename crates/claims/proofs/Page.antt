@@ -3,13 +3,16 @@
 use mathlib.Core.Path.{_≡_, refl, subst}
 use mathlib.Core.Logic.{_↔_}
 use mathlib.Core.List.{List}
-use Prim.Native.Nat.{ℕ, _+_, _-_, _*_, _/_, _%_, _≤_, _<_, zero-le}
+use Prim.Native.Nat.{ℕ, _+_, _-_, _*_, _/_, _%_, _^_, _≤_, _<_, zero-le}
 use native.Mathlib.Omega.{arith}
+use lib.Count.{trailingZeros}
 use lib.Dec.{T}
 use lib.ListN.{length, getD, take, drop}
 use Rattle.base.specs.Sets.{In, NoBitFrom}
 use Rattle.base.specs.Sizes.{LongEnough}
 use Rattle.base.specs.Lists.{Each, Bytes}
+use Rattle.base.specs.Present.{LowestState}
+use Rattle.base.proofs.Trailing.{trailing-zeros-lowest}
 use Rattle.base.specs.Tables.{every, byRule}
 use Rattle.reversal.specs.Device.{Device, Proper, tabled}
 use Rattle.reversal.specs.Reversal.{Item, Executable, EndsIn, Reverses, Effective, Accepted, NeverUsed, Returns}
@@ -19,6 +22,8 @@ use Rattle.reversal.specs.Answers.{Allowed, Answer, Answers, Numbers}
 use Rattle.reversal.specs.Twelve.{Twelve}
 use Rattle.reversal.specs.Weighted.{Weighted}
 use Rattle.reversal.specs.WorkedUnits.{WorkedUnits}
+use Rattle.reversal.specs.Slips.{Slips}
+use Rattle.reversal.specs.Longest.{Longest}
 use Rattle.reversal.specs.Computed.Sets.{accepts}
 use Rattle.reversal.specs.Computed.Beliefs.{belief}
 use Rattle.reversal.specs.Computed.Assembly.{fits, numbers, answer}
@@ -31,27 +36,49 @@ use Rattle.reversal.proofs.EndToEnd.{chain-undoes, never-fits}
 use Rattle.reversal.proofs.Assembling.{cost-most, numbers-right, answer-right, answers-unique}
 use Rattle.reversal.proofs.Sizes.{worked-units}
 use Rattle.reversal.proofs.Cases.{twelve, weighted}
+use Rattle.states.proofs.StateSet.visit.Symbol.{routine as visit-routine}
+use Rattle.states.proofs.StateSet.visit.Met.{met as visit-met}
+use Rattle.states.proofs.StateSet.sent.Symbol.{routine as sent-routine}
+use Rattle.states.proofs.StateSet.sent.Met.{met as sent-met}
 use Rattle.book.specs.Book.{Book, deviceOf, AllowedBook, bytesOf, WellFormed, itemsOf}
-use Rattle.book.specs.Lent.{Lent}
+use Rattle.reversal.proofs.Slips.{slips}
+use Rattle.reversal.proofs.Longest.{longest as longest-case}
+use Rattle.book.specs.Lent.{Lent, sizes}
+use Rattle.book.specs.Example.{bytesQ}
 use Rattle.book.specs.Example as book-example
 use Rattle.book.proofs.Example as book-cases
+use Rattle.book.specs.Further as book-further
+use Rattle.book.proofs.Further as book-further-cases
+use Rattle.book.specs.Edges as book-edges
+use Rattle.book.proofs.Edges as book-edge-cases
 use Rattle.book.proofs.Largest.{length-book, largest-book}
 use Rattle.reader.specs.declared.Reading.{Reading}
 use Rattle.reader.specs.Reads.{Reads}
 use Rattle.reader.specs.Cases.{QRead}
 use Rattle.reader.proofs.Unique.{reads-unique}
 use Rattle.reader.proofs.Cases.{q-read}
+use Rattle.reader.specs.Edges as read-edges
+use Rattle.reader.proofs.Edges as read-edge-cases
+use Rattle.reader.proofs.read as read
 use Rattle.reader.proofs.read.Symbol.{routine as read-routine}
 use Rattle.reader.proofs.read.Met.{met as read-met}
 use Rattle.checker.specs.declared.Checking.{Checking}
 use Rattle.checker.specs.declared.Reason.the-variants.{NotEffective}
 use Rattle.checker.specs.Checks.{WrongFor, Checks}
-use Rattle.checker.specs.Cases.{QChecked}
+use Rattle.checker.specs.Cases.{QChecked, TablesChecked}
+use Rattle.checker.specs.declared.TableChecking.{TableChecking}
+use Rattle.checker.specs.TableChecks.{TableChecks}
 use Rattle.checker.proofs.Unique.{checks-unique}
-use Rattle.checker.proofs.Cases.{q-checked}
+use Rattle.checker.proofs.TableChecks.{table-checks-unique}
+use Rattle.checker.proofs.Cases.{q-checked, tables-checked}
+use Rattle.checker.specs.Edges as check-edges
+use Rattle.checker.proofs.Edges as check-edge-cases
 use Rattle.checker.proofs.check as check
 use Rattle.checker.proofs.check.Symbol.{routine as check-routine}
 use Rattle.checker.proofs.check.Met.{met as check-met}
+use Rattle.checker.proofs.check_table as check-table
+use Rattle.checker.proofs.check_table.Symbol.{routine as check-table-routine}
+use Rattle.checker.proofs.check_table.Met.{met as check-table-met}
 use Rattle.forecast.specs.declared.Forecasted.{Forecasted}
 use Rattle.forecast.specs.Forecasts.{Forecasts}
 use Rattle.forecast.specs.Cases.{QForecast}
@@ -66,11 +93,17 @@ use Rattle.writer.specs.Writes.{Writes}
 use Rattle.writer.specs.Cases as write-example
 use Rattle.writer.proofs.Exactly.{writes-unique}
 use Rattle.writer.proofs.Cases as write-cases
+use Rattle.writer.specs.Edges as write-edges
+use Rattle.writer.proofs.Edges as write-edge-cases
+use Rattle.writer.proofs.write as write
 use Rattle.writer.proofs.write.Symbol.{routine as write-routine}
 use Rattle.writer.proofs.write.Met.{met as write-met}
 use Rattle.runs.specs.RunBytes.{runBytes}
 use Rattle.runs.specs.Example as run-example
 use Rattle.runs.proofs.Example as run-cases
+use Rattle.assembly.specs.Asked.{Asked}
+use Rattle.runs.specs.Edges as run-edges
+use Rattle.runs.proofs.Edges as run-edge-cases
 use Rattle.assembly.specs.declared.Assembly.{Assembly}
 use Rattle.assembly.specs.Lent.{LegForm, inBytes, Room, AllLent, allSizes}
 use Rattle.assembly.specs.Assembles.{Assembles}
@@ -80,6 +113,8 @@ use Rattle.assembly.proofs.Unique.{assembles-unique}
 use Rattle.assembly.proofs.DemandUnique.{SamePlan, demand-unique}
 use Rattle.assembly.proofs.Cases.{runs, leg-runs}
 use Rattle.assembly.specs.Small.{smallSizes, AssemblesSmall, SmallDemand}
+use Rattle.assembly.specs.Edges.{Edges, SmallEdges}
+use Rattle.assembly.proofs.Edges.{edges, small-edges}
 use Rattle.assembly.proofs.Small.{small-unique}
 use Rattle.assembly.proofs.assemble_small as assemble-small
 use Rattle.assembly.proofs.assemble_small.Symbol.{routine as assemble-small-routine}
@@ -118,12 +153,14 @@ use Rattle.paper.specs.Pages.{pageSizes, linesOn, Pages, PageDemand, TakenDown}
 use Rattle.paper.specs.Cases.{Lines, PageRuns}
 use Rattle.paper.proofs.Unique.{pages-unique}
 use Rattle.paper.proofs.Cases.{lines, page-runs}
+use Rattle.paper.specs.Edges as paper-edges
+use Rattle.paper.proofs.Edges as paper-edge-cases
 use Rattle.paper.proofs.lay_out as lay-out
 use Rattle.paper.proofs.lay_out.Symbol.{routine as lay-out-routine}
 use Rattle.paper.proofs.lay_out.Met.{met as lay-out-met}
 use Rattle.planner.specs.Structs.{inStructs}
 use Rattle.planner.specs.Cases.{StructRuns}
-use Rattle.planner.proofs.Cases.{struct-runs}
+use Rattle.planner.proofs.Cases.{struct-runs, struct-edges}
 use Rattle.planner.proofs.rollback_read.Symbol.{routine as exported-read-routine}
 use Rattle.planner.proofs.rollback_read.Met.{met as exported-read-met}
 use Rattle.planner.proofs.rollback_check.Symbol.{routine as exported-check-routine}
@@ -150,14 +187,16 @@ use Rattle.report.specs.Example.{Examples}
 use Rattle.report.proofs.Exactly.{prints-first}
 use Rattle.report.proofs.Unique.{prints-unique}
 use Rattle.report.proofs.Cases.{examples}
+use Rattle.report.specs.Edges as report-edges
+use Rattle.report.proofs.Edges as report-edge-cases
 use Rattle.report.proofs.report.Symbol.{routine as report-routine}
 use Rattle.report.proofs.report.Met.{met as report-met}
-use Rattle.claims.specs.Claims.{onCheck, onForecast, onAssemble, onSmall, onLegs, onLayOut, ReadClaims, UnitsForeseen, CheckClaims, ForecastNumbers, ForecastClaims, WriteClaims, AssembleClaims, SmallClaims, EqualForms, LegsClaims, PaperClaims, LookupClaims, RuleClaims, ConstantTable, RidgeTable, PortableTable, ReportClaims}
+use Rattle.claims.specs.Claims.{onRead, onCheck, onCheckTable, onForecast, onWrite, onAssemble, onSmall, onLegs, onLayOut, ReadClaims, UnitsForeseen, CheckClaims, CheckTableClaims, ForecastNumbers, ForecastClaims, WriteClaims, PlanUndoes, SmallUndoes, AssembleClaims, SmallClaims, EqualForms, LegsClaims, PaperClaims, LookupClaims, RuleClaims, ConstantTable, RidgeTable, PortableTable, VisitClaims, ReportClaims}
 use Rattle.claims.specs.Always.{Always}
-use Rattle.claims.specs.Worked.{ChecksWorked, ForecastsWorked, AssemblesWorked, SmallWorked, PaperWorked}
+use Rattle.claims.specs.Worked.{ChecksWorked, TableWorked, ForecastsWorked, AssemblesWorked, SmallWorked, PaperWorked, ReadsWorked, WritesWorked}
 use Rattle.claims.proofs.Foreseen as foreseen
 use Rattle.claims.proofs.Follows as follows
-use Rattle.claims.proofs.Calls.{read-claims, check-claims, forecast-claims, write-claims, assemble-claims, small-claims, equal-claims, legs-claims, paper-claims, lookup-claims, rule-claims, ridge-table-claims, portable-table-claims, report-claims, check-worked, forecast-worked, assemble-worked, small-worked, legs-worked, paper-worked}
+use Rattle.claims.proofs.Calls.{read-claims, check-claims, forecast-claims, write-claims, assemble-claims, small-claims, equal-claims, legs-claims, paper-claims, lookup-claims, rule-claims, ridge-table-claims, portable-table-claims, report-claims, check-worked, forecast-worked, assemble-worked, small-worked, legs-worked, paper-worked, check-table-claims, table-worked, visit-claims, read-worked, write-worked}
 
 -- ---- the meaning
 
@@ -246,6 +285,10 @@ checking = check-claims check-routine (λ M. check-met)
 pub exported-checking : CheckClaims exported-check-routine
 exported-checking = check-claims exported-check-routine (λ M. exported-check-met)
 
+-- with a table as the only buffer
+pub checking-table : CheckTableClaims check-table-routine
+checking-table = check-table-claims check-table-routine (λ M. check-table-met)
+
 -- how much checking a book will take
 pub forecasting : ForecastClaims forecast-routine
 forecasting = forecast-claims forecast-routine (λ M. forecast-met)
@@ -291,8 +334,8 @@ pub exported-laying-out : PaperClaims exported-page-routine
 exported-laying-out = paper-claims exported-page-routine (λ M. exported-page-met)
 
 -- what assembling gives for a run of i commands is within the forecast for i, for either form of the legs
-pub plans-foreseen : {E : Type 0} {form : LegForm E} {book run : List ℕ} {i : ℕ} {f : Forecasted} {l : AllLent E} {r : Assembly} {l′ : AllLent E}
-    → Forecasts book i f → f .code ≡ 0 → (u : Run) → runBytes u ≡ run → last u ≡ i → Assembles form book run l r l′
+pub plans-foreseen : {E : Type 0} {form : LegForm E} {ask : Asked} {i : ℕ} {f : Forecasted} {l : AllLent E} {r : Assembly} {l′ : AllLent E}
+    → Forecasts (ask .book) i f → f .code ≡ 0 → (u : Run) → runBytes u ≡ ask .run → last u ≡ i → Assembles form ask l r l′
     → (r .commands ≤ f .«plan_bytes») × (r .legs ≤ f .legs)
 plans-foreseen = foreseen.plans-foreseen
 
@@ -326,6 +369,14 @@ portable-table = portable-table-claims portable-table-routine (λ M. portable-ta
 pub portable-rule : RuleClaims portable portable-outcomes-routine
 portable-rule = rule-claims portable-outcomes-routine portable-mask (λ M. portable-outcomes-met)
 
+-- the states that a command visits: 02: "found by counting trailing zeros, which is proved to give the lowest"
+pub trailing-zeros : (w : ℕ) → (w ≡ 0 → ⊥) → w < 2 ^ 64 → LowestState w (trailingZeros 64 w)
+trailing-zeros = trailing-zeros-lowest
+
+-- the routines that apply a command to a set visit those present alone, lowest first
+pub visiting : VisitClaims visit-routine sent-routine
+visiting = visit-claims visit-routine sent-routine (λ M. visit-met) (λ M. sent-met)
+
 -- the text that the program prints
 pub printing : ReportClaims report-routine
 printing = report-claims report-routine (λ M. report-met)
@@ -339,27 +390,50 @@ printing-first = prints-first
 
 -- demand 3: "Nobody who sends the whole plan from where a history stands last can get stuck or end anywhere but where that history began": of the
 -- bytes in the lent plan, on code 0, for either form of the legs
-pub whole-plan-undoes : {E : Type 0} (form : LegForm E) {book run : List ℕ} {l : AllLent E} {r : Assembly} {l′ : AllLent E} → Demand form book run l r l′
-    → r .code ≡ 0 → {b : Book} {u : Run} → Given book run b u → Undoes (deviceOf b) u (take (r .commands) (l′ .room .plan))
+pub whole-plan-undoes : {E : Type 0} (form : LegForm E) {ask : Asked} {l : AllLent E} {r : Assembly} {l′ : AllLent E} → Demand form ask l r l′
+    → r .code ≡ 0 → {b : Book} {u : Run} → Given ask b u → Undoes (deviceOf b) u (take (r .commands) (l′ .room .plan))
 whole-plan-undoes = follows.whole-plan
 
 -- and of the commands taken down the page
-pub page-undoes : {book run : List ℕ} {l : AllLent ℕ} {page : List ℕ} {r : Paged} {l′ : AllLent ℕ} {page′ : List ℕ} → PageDemand book run l page r l′ page′
-    → TakenDown r l′ page′ → LongEnough (pageSizes page) → r .assembly .code ≡ 0 → {b : Book} {u : Run} → Given book run b u
+pub page-undoes : {ask : Asked} {l : AllLent ℕ} {page : List ℕ} {r : Paged} {l′ : AllLent ℕ} {page′ : List ℕ} → PageDemand ask l page r l′ page′
+    → TakenDown r l′ page′ → LongEnough (pageSizes page) → r .assembly .code ≡ 0 → {b : Book} {u : Run} → Given ask b u
     → Undoes (deviceOf b) u (down commandsOn (linesOn r page′))
 page-undoes = follows.page-undoes
 
+-- the same of the exported routines, whatever they are passed
+pub plans-undo : Always assemble.ended exported-assemble-routine (onAssemble PlanUndoes)
+plans-undo = follows.undoing exported-assemble-routine exported-assembling
+
+pub plans-undo-legs : Always assemble-legs.ended assemble-legs-routine (onLegs PlanUndoes)
+plans-undo-legs = follows.undoing-legs assemble-legs-routine assembling-legs
+
+pub plans-undo-small : Always assemble-small.ended exported-small-routine (onSmall SmallUndoes)
+plans-undo-small = follows.undoing-small exported-small-routine exported-assembling-small
+
 -- plan and legs of the two forms of assembling, each compiled routine's, are one function of what is lent
-pub equal-plans : (left : List ℕ → List ℕ → Room ℕ → Room ℕ)
-    × Always assemble.ended assemble-routine (onAssemble (λ book run l r l′. LongEnough (allSizes inBytes l) → l′ .room ≡ left book run (l .room)))
-    × Always assemble-small.ended assemble-small-routine (onSmall (λ book run scratch room r scratch′ room′. LongEnough (smallSizes scratch room)
-    → room′ ≡ left book run room))
+pub equal-plans : (left : Asked → Room ℕ → Room ℕ)
+    × Always assemble.ended assemble-routine (onAssemble (λ ask l r l′. LongEnough (allSizes inBytes l) → l′ .room ≡ left ask (l .room)))
+    × Always assemble-small.ended assemble-small-routine (onSmall (λ ask scratch room r scratch′ room′. LongEnough (smallSizes scratch room)
+    → room′ ≡ left ask room))
 equal-plans = follows.equal-rooms equal-forms
 
 -- any answer but 1 needs a scratch of 64 masks
-pub scratch-long : {book run scratch : List ℕ} {room : Room ℕ} {r : Assembly} {scratch′ : List ℕ} {room′ : Room ℕ}
-    → SmallDemand book run scratch room r scratch′ room′ → (r .code ≡ 1 → ⊥) → 64 ≤ length scratch
+pub scratch-long : {ask : Asked} {scratch : List ℕ} {room : Room ℕ} {r : Assembly} {scratch′ : List ℕ} {room′ : Room ℕ}
+    → SmallDemand ask scratch room r scratch′ room′ → (r .code ≡ 1 → ⊥) → 64 ≤ length scratch
 scratch-long = follows.scratch-long
+
+-- by the exported routines Q is read, accepted and foreseen, and what is written is at most 31,178 bytes
+pub q-read-so : Always read.ended exported-read-routine (onRead (λ book l r l′. book ≡ bytesQ → LongEnough (sizes l) → r .code ≡ 0))
+q-read-so = follows.reads-Q exported-read-routine exported-reading
+
+pub q-checked-so : Always check.ended exported-check-routine (onCheck (λ book l r l′. book ≡ bytesQ → LongEnough (sizes l) → r .code ≡ 0))
+q-checked-so = follows.checks-Q exported-check-routine exported-checking
+
+pub q-foreseen-so : Always forecast.ended exported-forecast-routine (onForecast (λ book i r. book ≡ bytesQ → i ≤ 32 → r .code ≡ 0))
+q-foreseen-so = follows.foresees-Q exported-forecast-routine exported-forecasting
+
+pub written-most : Always write.ended exported-write-routine (onWrite (λ n m items l out r out′. r .code ≡ 0 → r .length ≤ 31178))
+written-most = follows.writes-most exported-write-routine exported-writing
 
 -- no check of a well-formed book makes more than 65,536 units
 pub units-most : {book : List ℕ} {l : Lent} {r : Checking} {l′ : Lent} {i : ℕ} {q : Forecasted} → UnitsForeseen book l r l′ → Forecasts book i q
@@ -397,6 +471,10 @@ only-reading h x y = reads-unique h x y
 pub only-checking : {book : List ℕ} {l : Lent} {r q : Checking} {l′ l″ : Lent} → Bytes book → Checks book l r l′ → Checks book l q l″ → (r ≡ q) × (l′ ≡ l″)
 only-checking h x y = checks-unique h x y
 
+pub only-checking-table : {book table : List ℕ} {r q : TableChecking} {table′ table″ : List ℕ} → Bytes book → TableChecks book table r table′
+    → TableChecks book table q table″ → (r ≡ q) × (table′ ≡ table″)
+only-checking-table h x y = table-checks-unique h x y
+
 pub only-forecast : {book : List ℕ} {i : ℕ} {r q : Forecasted} → Bytes book → Forecasts book i r → Forecasts book i q → r ≡ q
 only-forecast h x y = forecasts-unique h x y
 
@@ -405,18 +483,18 @@ pub only-writing : {n m items : ℕ} {l : Lent} {out : List ℕ} {r q : Writing}
 only-writing h x y = writes-unique h x y
 
 -- for either form of the legs
-pub only-assembling : {E : Type 0} {form : LegForm E} {book run : List ℕ} {l : AllLent E} {r q : Assembly} {l′ l″ : AllLent E} → Bytes book
-    → Assembles form book run l r l′ → Assembles form book run l q l″ → (r ≡ q) × (l′ ≡ l″)
+pub only-assembling : {E : Type 0} {form : LegForm E} {ask : Asked} {l : AllLent E} {r q : Assembly} {l′ l″ : AllLent E} → Bytes (ask .book)
+    → Assembles form ask l r l′ → Assembles form ask l q l″ → (r ≡ q) × (l′ ≡ l″)
 only-assembling h x y = assembles-unique h x y
 
 -- with a scratch: result, plan and legs, what lies past its 64 masks, and where a buffer is short all of it; elsewhere 02 frees the 64
-pub only-assembling-small : {book run scratch : List ℕ} {room : Room ℕ} {r q : Assembly} {scratch′ scratch″ : List ℕ} {room′ room″ : Room ℕ}
-    → Bytes book → AssemblesSmall book run scratch room r scratch′ room′ → AssemblesSmall book run scratch room q scratch″ room″
+pub only-assembling-small : {ask : Asked} {scratch : List ℕ} {room : Room ℕ} {r q : Assembly} {scratch′ scratch″ : List ℕ} {room′ room″ : Room ℕ}
+    → Bytes (ask .book) → AssemblesSmall ask scratch room r scratch′ room′ → AssemblesSmall ask scratch room q scratch″ room″
     → (r ≡ q) × (room′ ≡ room″) × (drop 64 scratch′ ≡ drop 64 scratch″) × ((LongEnough (smallSizes scratch room) → ⊥) → scratch′ ≡ scratch″)
 only-assembling-small h x y = small-unique h x y
 
-pub only-laying-out : {book run : List ℕ} {l : AllLent ℕ} {page : List ℕ} {r q : Paged} {l′ l″ : AllLent ℕ} {page′ page″ : List ℕ} → Bytes book
-    → Pages book run l page r l′ page′ → Pages book run l page q l″ page″ → (r ≡ q) × (l′ ≡ l″) × (page′ ≡ page″)
+pub only-laying-out : {ask : Asked} {l : AllLent ℕ} {page : List ℕ} {r q : Paged} {l′ l″ : AllLent ℕ} {page′ page″ : List ℕ} → Bytes (ask .book)
+    → Pages ask l page r l′ page′ → Pages ask l page q l″ page″ → (r ≡ q) × (l′ ≡ l″) × (page′ ≡ page″)
 only-laying-out h x y = pages-unique h x y
 
 pub only-looking-up : (d : DeviceRule) (state command : ℕ) (r q : LookupResult) → Looked d state command r → Looked d state command q → r ≡ q
@@ -430,8 +508,8 @@ only-printing = prints-unique
 
 -- demand 3 alone, where no refusal before it is due and some history fits: which of 0 and 11, the numbers, and on 0 counts, sum, plan and
 -- legs
-pub only-demand : {E : Type 0} (form : LegForm E) {book run : List ℕ} {l : AllLent E} {b : Book} {u : Run} → Ready form book run l b u
-    → {r q : Assembly} {l′ l″ : AllLent E} → Demand form book run l r l′ → Demand form book run l q l″
+pub only-demand : {E : Type 0} (form : LegForm E) {ask : Asked} {l : AllLent E} {b : Book} {u : Run} → Ready form ask l b u
+    → {r q : Assembly} {l′ l″ : AllLent E} → Demand form ask l r l′ → Demand form ask l q l″
     → (r .code ≡ q .code) × (r .fewest ≡ q .fewest) × (r .code ≡ 0 → SamePlan form r q (l′ .room) (l″ .room))
 only-demand form ready x y = demand-unique form ready x y
 
@@ -447,6 +525,14 @@ cases = twelve
 -- two cases of our own on Q with weights: the chain with more commands is the cheaper; equal sums and different counts
 pub cases-weighted : Weighted
 cases-weighted = weighted
+
+-- cases of our own that the twelve can't tell: phi and psi against the possible states, a tie that goes to more legs, a set of which one state is stuck
+pub cases-slips : Slips
+cases-slips = slips
+
+-- the longest run and plan: 32 commands, 256 to send, 32 legs
+pub case-longest : Longest
+case-longest = longest-case
 
 -- the units and the largest r of the items of Q and of those with weights
 pub case-units : WorkedUnits
@@ -466,6 +552,10 @@ case-read = q-read
 
 pub case-checked : QChecked
 case-checked = q-checked
+
+-- with a table as the only buffer: Q, with the items of Q3 and Q4, cut off; a table of 2,047 entries; n and m told apart
+pub case-tables : TablesChecked
+case-tables = tables-checked
 
 -- the forecast for Q and for the book with weights; i over 32; a book cut off
 pub case-forecast : QForecast
@@ -490,9 +580,52 @@ lines-on-paper = lines
 pub runs-on-paper : PageRuns
 runs-on-paper = page-runs
 
+-- both sides of every limit, and every code with the whole answer; a book with 2 states and 3 commands, and the longest plan
+pub further-books : book-further.Further
+further-books = book-further-cases.further
+
+pub edge-books : book-edges.Edges
+edge-books = book-edge-cases.edges
+
+pub edge-runs : run-edges.Edges
+edge-runs = run-edge-cases.edges
+
+pub edge-reading : read-edges.Edges
+edge-reading = read-edge-cases.edges
+
+pub edge-checking : check-edges.Edges
+edge-checking = check-edge-cases.edges
+
+pub edge-writing : write-edges.Edges
+edge-writing = write-edge-cases.edges
+
+pub edge-assembling : Edges inBytes 96 95
+edge-assembling = edges inBytes refl refl
+
+pub edge-legs : Edges inStructs 32 31
+edge-legs = struct-edges
+
+pub edge-small : SmallEdges
+edge-small = small-edges
+
+pub edge-paper : paper-edges.Edges
+edge-paper = paper-edge-cases.edges
+
+pub edge-printing : report-edges.Edges
+edge-printing = report-edge-cases.edges
+
 -- the same books and runs, of the compiled routines
+pub worked-reading : Always read.ended read-routine (onRead ReadsWorked)
+worked-reading = read-worked read-routine (λ M. read-met)
+
+pub worked-writing : Always write.ended write-routine (onWrite WritesWorked)
+worked-writing = write-worked write-routine (λ M. write-met)
+
 pub worked-checking : Always check.ended check-routine (onCheck ChecksWorked)
 worked-checking = check-worked check-routine (λ M. check-met)
+
+pub worked-table : Always check-table.ended check-table-routine (onCheckTable TableWorked)
+worked-table = table-worked check-table-routine (λ M. check-table-met)
 
 pub worked-forecast : Always forecast.ended forecast-routine (onForecast ForecastsWorked)
 worked-forecast = forecast-worked forecast-routine (λ M. forecast-met)

@@ -1,6 +1,7 @@
 -- What is claimed of the public calls: for each call a record of claims about a routine ρ, which proofs/Page gives for the call itself and for the
 -- exported one. A claim speaks of the arguments, the result r and the arguments at exit, marked ′. Nothing is asked of the caller.
 use mathlib.Core.Path.{_≡_}
+use mathlib.Core.Bool.{Bool, true}
 use mathlib.Core.Logic.{_↔_}
 use mathlib.Core.List.{List}
 use Prim.Native.Nat.{ℕ, _*_, _/_, _%_, _<_, _≤_}
@@ -8,9 +9,15 @@ use prog.Routine.{Routine}
 use lib.ListN.{length, getD, take}
 use denote.Ref.{now}
 use Rattle.base.specs.Sizes.{LongEnough}
+use Rattle.reversal.specs.Device.{Device, entry}
 use Rattle.reversal.specs.Runs.{Run, last}
-use Rattle.reversal.specs.Chains.{Chain, planOf}
+use Rattle.reversal.specs.Chains.{Chain, planOf, Undoes}
 use Rattle.book.specs.Book.{Book, deviceOf, AllowedBook, bytesOf, WellFormed, itemsFor}
+use Rattle.states.specs.declared.Visited.{Visited}
+use Rattle.states.specs.declared.Sent.{Sent}
+use Rattle.states.specs.Visits.{VisitsPresent, SendsToPresent}
+use Rattle.states.proofs.StateSet.visit as visit
+use Rattle.states.proofs.StateSet.sent as sent
 use Rattle.book.specs.Lent.{Lent, lent, sizes, Holds}
 use Rattle.reader.specs.declared.Reading.{Reading}
 use Rattle.reader.specs.Reads.{refusal, Reads}
@@ -19,17 +26,21 @@ use Rattle.checker.specs.declared.Checking.{Checking}
 use Rattle.checker.specs.declared.Reason.{Reason}
 use Rattle.checker.specs.declared.Reason.the-variants.{NoReversePlan, NotEffective}
 use Rattle.checker.specs.Checks.{AcceptedBook, placeOf, WrongFor, UnitsMade, withUnits, Checks}
+use Rattle.checker.specs.declared.TableChecking.{TableChecking}
+use Rattle.checker.specs.TableChecks.{answerOf, TableChecks}
 use Rattle.checker.proofs.check as check
+use Rattle.checker.proofs.check_table as check-table
 use Rattle.forecast.specs.declared.Forecasted.{Forecasted}
 use Rattle.forecast.specs.Forecasts.{Forecasts}
 use Rattle.forecast.proofs.forecast as forecast
 use Rattle.writer.specs.declared.Writing.{Writing}
 use Rattle.writer.specs.Writes.{buffers, BookWritten, Writes}
 use Rattle.writer.proofs.write as write
+use Rattle.assembly.specs.Asked.{Asked, asked}
 use Rattle.assembly.specs.declared.Assembly.{Assembly}
 use Rattle.assembly.specs.Lent.{inBytes, Room, lentRoom, AllLent, allLent, allSizes}
 use Rattle.assembly.specs.Assembles.{Assembles}
-use Rattle.assembly.specs.Demand.{Demand}
+use Rattle.assembly.specs.Demand.{Given, Demand}
 use Rattle.assembly.specs.Small.{smallSizes, AssemblesSmall, SmallDemand}
 use Rattle.assembly.proofs.assemble as assemble
 use Rattle.assembly.proofs.assemble_small as assemble-small
@@ -68,6 +79,13 @@ abbrev pub onCheck : Check → After check.ended
 onCheck P κs (book, (table, (slots, (weights, _)))) r (_, (table′, (slots′, (weights′, _)))) =
     P (now book) (lent (now table) (now slots) (now weights)) r (lent (now table′) (now slots′) (now weights′))
 
+-- a table is the only buffer
+abbrev pub CheckTable : Type 1
+CheckTable = List ℕ → List ℕ → TableChecking → List ℕ → Type 0
+
+abbrev pub onCheckTable : CheckTable → After check-table.ended
+onCheckTable P κs (book, (table, _)) r (_, (table′, _)) = P (now book) (now table) r (now table′)
+
 -- no buffer is lent
 abbrev pub Forecast : Type 1
 Forecast = List ℕ → ℕ → Forecasted → Type 0
@@ -83,32 +101,32 @@ onWrite P κs (n, (m, (items, (table, (slots, (weights, (out, _))))))) r (_, (_,
     P n m items (lent (now table) (now slots) (now weights)) (now out) r (now out′)
 
 abbrev pub Assemble : Type 0 → Type 1
-Assemble E = List ℕ → List ℕ → AllLent E → Assembly → AllLent E → Type 0
+Assemble E = Asked → AllLent E → Assembly → AllLent E → Type 0
 
 abbrev pub onAssemble : Assemble ℕ → After assemble.ended
 onAssemble P κs (book, (run, (table, (slots, (weights, (plan, (legs, _))))))) r (_, (_, (table′, (slots′, (weights′, (plan′, (legs′, _))))))) =
-    P (now book) (now run) (allLent (lent (now table) (now slots) (now weights)) (now plan) (now legs)) r
+    P (asked (now book) (now run)) (allLent (lent (now table) (now slots) (now weights)) (now plan) (now legs)) r
     (allLent (lent (now table′) (now slots′) (now weights′)) (now plan′) (now legs′))
 
 abbrev pub Small : Type 1
-Small = List ℕ → List ℕ → List ℕ → Room ℕ → Assembly → List ℕ → Room ℕ → Type 0
+Small = Asked → List ℕ → Room ℕ → Assembly → List ℕ → Room ℕ → Type 0
 
 abbrev pub onSmall : Small → After assemble-small.ended
 onSmall P κs (book, (run, (scratch, (plan, (legs, _))))) r (_, (_, (scratch′, (plan′, (legs′, _))))) =
-    P (now book) (now run) (now scratch) (lentRoom (now plan) (now legs)) r (now scratch′) (lentRoom (now plan′) (now legs′))
+    P (asked (now book) (now run)) (now scratch) (lentRoom (now plan) (now legs)) r (now scratch′) (lentRoom (now plan′) (now legs′))
 
 abbrev pub onLegs : Assemble Leg → After assemble-legs.ended
 onLegs P κs (book, (run, (table, (slots, (weights, (plan, (legs, _))))))) r (_, (_, (table′, (slots′, (weights′, (plan′, (legs′, _))))))) =
-    P (now book) (now run) (allLent (lent (now table) (now slots) (now weights)) (now plan) (now legs)) r
+    P (asked (now book) (now run)) (allLent (lent (now table) (now slots) (now weights)) (now plan) (now legs)) r
     (allLent (lent (now table′) (now slots′) (now weights′)) (now plan′) (now legs′))
 
 abbrev pub LayOut : Type 1
-LayOut = List ℕ → List ℕ → AllLent ℕ → List ℕ → Paged → AllLent ℕ → List ℕ → Type 0
+LayOut = Asked → AllLent ℕ → List ℕ → Paged → AllLent ℕ → List ℕ → Type 0
 
 abbrev pub onLayOut : LayOut → After lay-out.ended
 onLayOut P κs (book, (run, (table, (slots, (weights, (plan, (legs, (page, _)))))))) r
     (_, (_, (table′, (slots′, (weights′, (plan′, (legs′, (page′, _)))))))) =
-    P (now book) (now run) (allLent (lent (now table) (now slots) (now weights)) (now plan) (now legs)) (now page) r
+    P (asked (now book) (now run)) (allLent (lent (now table) (now slots) (now weights)) (now plan) (now legs)) (now page) r
     (allLent (lent (now table′) (now slots′) (now weights′)) (now plan′) (now legs′)) (now page′)
 
 -- the two devices' lookups take and give the same, and so do their rules' functions
@@ -120,6 +138,19 @@ onOutcomes P κs (state, (command, _)) w e = P state command w
 
 abbrev pub onReport : (List ℕ → List ℕ → List ℕ → ℕ → List ℕ → Type 0) → After report.ended
 onReport P κs (book, (run, (out, _))) r (_, (_, (out′, _))) = P (now book) (now run) (now out) r (now out′)
+
+-- what a command does to a set, of the device that is lent: `outcomes` says how a state's are read in what is lent (whether that is a table, the book, the
+-- masks, n, m, the state and the command)
+abbrev pub OutcomesRead : Type 0
+OutcomesRead = Bool → List ℕ → List ℕ → ℕ → ℕ → ℕ → ℕ → ℕ
+
+abbrev pub onVisit : OutcomesRead → (Device → ℕ → ℕ → Visited → Type 0) → After visit.ended
+onVisit outcomes P κs (self, (book, (masks, (tabled, (n, (m, (command, _))))))) r e =
+    P (record { n = n; m = m; outcomes = outcomes tabled (now book) (now masks) n m }) command (self .mask) r
+
+abbrev pub onSent : OutcomesRead → (Device → ℕ → ℕ → Sent → Type 0) → After sent.ended
+onSent outcomes P κs (self, (book, (masks, (tabled, (n, (m, (command, _))))))) r e =
+    P (record { n = n; m = m; outcomes = outcomes tabled (now book) (now masks) n m }) command (self .mask) r
 
 -- ---- the round trips: of one call, whatever the other was given
 
@@ -181,6 +212,24 @@ pub record CheckClaims (ρ : Routine) : Type 2 where
   pub twelve : Always check.ended ρ (onCheck (ChecksWrong 12 NotEffective))
   pub units-foreseen : Always check.ended ρ (onCheck UnitsForeseen)
 
+-- with a table as the only buffer, 0 exactly where it is long enough and the book is accepted
+abbrev pub TableZero : CheckTable
+TableZero book table r table′ = (r .code ≡ 0) ↔ ((2048 ≤ length table) × ((b : Book) × AcceptedBook book b))
+
+-- 02: "read as by checking": whatever checking gives for the same book and table, in slots and weights that are long enough, but for the item count and
+-- the units. This follows from the first claim, since there is one answer only.
+abbrev pub AsChecking : CheckTable
+AsChecking book table r table′ =
+    (slots weights : List ℕ) (c : Checking) (l′ : Lent) → Checks book (lent table slots weights) c l′ → 2176 ≤ length slots → 32 ≤ length weights
+    → (r ≡ answerOf c) × (table′ ≡ l′ .table)
+
+-- checking with a table as the only buffer, on which 02's calls that take a book and a table stand
+pub record CheckTableClaims (ρ : Routine) : Type 2 where
+  -- 1 straight away and the book's codes with the table untouched; 8 and 12, and 0, with the table read
+  pub says : Always check-table.ended ρ (onCheckTable TableChecks)
+  pub zero : Always check-table.ended ρ (onCheckTable TableZero)
+  pub as-checking : Always check-table.ended ρ (onCheckTable AsChecking)
+
 -- the forecast answers 0 exactly on the bytes of some allowed book and at most 32 commands
 abbrev pub ForecastsZero : Forecast
 ForecastsZero book i r = (r .code ≡ 0) ↔ (WellFormed book × (i ≤ 32))
@@ -219,6 +268,15 @@ pub record WriteClaims (ρ : Routine) : Type 2 where
   pub well-formed : Always write.ended ρ (onWrite WellWritten)
   pub same-bytes : Always write.ended ρ (onWrite WriteBack)
 
+-- demand 3: "Nobody who sends the whole plan from where a history stands last can get stuck or end anywhere but where that history began": of the bytes in
+-- the lent plan. This follows from demand 3 whole, which the claims have.
+abbrev pub PlanUndoes : {E : Type 0} → Assemble E
+PlanUndoes ask l r l′ = r .code ≡ 0 → (b : Book) (u : Run) → Given ask b u → Undoes (deviceOf b) u (take (r .commands) (l′ .room .plan))
+
+abbrev pub SmallUndoes : Small
+SmallUndoes ask scratch room r scratch′ room′ =
+    r .code ≡ 0 → (b : Book) (u : Run) → Given ask b u → Undoes (deviceOf b) u (take (r .commands) (room′ .plan))
+
 pub record AssembleClaims (ρ : Routine) : Type 2 where
   -- every code of 01's table, and 02's 12 and 13, in their order, with every buffer as stated for it
   pub says : Always assemble.ended ρ (onAssemble (Assembles inBytes))
@@ -237,23 +295,24 @@ pub record SmallClaims (ρ : Routine) : Type 2 where
   pub demand-three : Always assemble-small.ended ρ (onSmall SmallDemand)
 
 -- 02: "With buffers of the stated lengths, plan and legs lent alike, result, plan and legs equal the first form's for every book and run": of the two
--- routines, ρ of the first form and σ of the small one. What both give is one function of the book, the run, and plan and legs as they are lent.
+-- routines, ρ of the first form and σ of the small one. What both answer is one function of the book and the run, and what they leave one of these and of
+-- plan and legs as they are lent.
 pub record EqualForms (ρ σ : Routine) : Type 2 where
-  pub result : List ℕ → List ℕ → Room ℕ → Assembly
+  pub result : Asked → Assembly
   -- plan and legs at exit
-  pub left : List ℕ → List ℕ → Room ℕ → Room ℕ
+  pub left : Asked → Room ℕ → Room ℕ
   pub first :
-      Always assemble.ended ρ (onAssemble (λ book run l r l′. LongEnough (allSizes inBytes l)
-      → (r ≡ result book run (l .room)) × (l′ .room ≡ left book run (l .room))))
+      Always assemble.ended ρ (onAssemble (λ ask l r l′. LongEnough (allSizes inBytes l)
+      → (r ≡ result ask) × (l′ .room ≡ left ask (l .room))))
   pub small :
-      Always assemble-small.ended σ (onSmall (λ book run scratch room r scratch′ room′. LongEnough (smallSizes scratch room)
-      → (r ≡ result book run room) × (room′ ≡ left book run room)))
+      Always assemble-small.ended σ (onSmall (λ ask scratch room r scratch′ room′. LongEnough (smallSizes scratch room)
+      → (r ≡ result ask) × (room′ ≡ left ask room)))
 
 -- on a page that is long enough, result and buffers are assembling's: whatever it gives for the same book, run and buffers. This follows from the first
 -- claim, since assembling has one answer only.
 abbrev pub AsAssembling : LayOut
-AsAssembling book run l page r l′ page′ =
-    LongEnough (pageSizes page) → (q : Assembly) (l″ : AllLent ℕ) → Assembles inBytes book run l q l″ → (r .assembly ≡ q) × (l′ ≡ l″)
+AsAssembling ask l page r l′ page′ =
+    LongEnough (pageSizes page) → (q : Assembly) (l″ : AllLent ℕ) → Assembles inBytes ask l q l″ → (r .assembly ≡ q) × (l′ ≡ l″)
 
 -- on paper
 pub record PaperClaims (ρ : Routine) : Type 2 where
@@ -261,7 +320,7 @@ pub record PaperClaims (ρ : Routine) : Type 2 where
   pub says : Always lay-out.ended ρ (onLayOut Pages)
   pub as-assembling : Always lay-out.ended ρ (onLayOut AsAssembling)
   -- 02: "The commands, taken down the page, are the plan."
-  pub taken-down : Always lay-out.ended ρ (onLayOut (λ book run l page r l′ page′. TakenDown r l′ page′))
+  pub taken-down : Always lay-out.ended ρ (onLayOut (λ ask l page r l′ page′. TakenDown r l′ page′))
   -- demand 3, by assembling's
   pub demand-three : Always lay-out.ended ρ (onLayOut PageDemand)
 
@@ -287,6 +346,14 @@ RidgeTable ρ = Always ridge-table.ended ρ (λ κs a r e. ConstantTable ridge 6
 -- 02: "its constant table of 384 masks", none of them empty
 abbrev pub PortableTable : Routine → Type 2
 PortableTable ρ = Always portable-table.ended ρ (λ κs a r e. ConstantTable portable 384 r)
+
+-- 02, request 4: a command visits the states present alone, lowest first; one that is sent to a set goes no further than the first that is stuck. A
+-- state's outcomes are the table's entry, where a table is lent.
+pub record VisitClaims (ρ σ : Routine) : Type 2 where
+  pub outcomes : OutcomesRead
+  pub in-table : (book table : List ℕ) (n m s c : ℕ) → outcomes true book table n m s c ≡ entry n m table s c
+  pub visits : Always visit.ended ρ (onVisit outcomes (λ d c w r. d .n ≤ 64 → d .m ≤ 32 → VisitsPresent d c w r))
+  pub sends : Always sent.ended σ (onSent outcomes (λ d c w r. d .n ≤ 64 → d .m ≤ 32 → SendsToPresent d c w r))
 
 -- the program's text
 pub record ReportClaims (ρ : Routine) : Type 2 where

@@ -11,20 +11,14 @@ fn print_answer(r: Forecasted) {
 fn next_case(file: i32) {
     let mut head = [0u8; 10];
     let mut book = [0u8; 31179];
-    io::read_full(file, &mut head);
-    let size = vectors::read_part(file, octets::u16_at(&head, 8) as u16, &mut book);
+    let size = vectors::next_book(file, &mut head, &mut book);
     print_answer(forecast::forecast(&book[..size], octets::u64_at(&head, 0)));
 }
 
 fn main() {
-    let path = b"forecasts.bin";
-    let file = os::open_read(path);
-    if file < 0 {
-        os::fail(path);
-        return;
+    let cases = vectors::open(b"forecasts.bin", 900);
+    for _ in 0..cases.count {
+        next_case(cases.file);
     }
-    for _ in 0..900u64 {
-        next_case(file);
-    }
-    libc::close(file);
+    libc::close(cases.file);
 }

@@ -13,13 +13,13 @@ use Rattle.reversal.specs.Chains.{absent, item}
 use Rattle.octets.specs.Le.{bytesLe}
 use Rattle.octets.specs.Parts.{le, leAt, piece}
 use Rattle.octets.proofs.LeAt.{le-past}
-use Rattle.octets.proofs.Put.{piece-at, piece-take}
+use Rattle.octets.proofs.Put.{piece-at, length-piece}
 use Rattle.book.specs.Book.{Book, AllowedBook, deviceOf, frame, framed, itemRec, bytesOf, itemsOf}
 use Rattle.book.proofs.Fields.{mask-fits}
 use Rattle.book.proofs.Bodies.{first-eight, past-eight, item-length}
 use Rattle.book.proofs.Scanning.{length-frame}
 use Rattle.items.specs.declared.Parts.{Parts}
-use Rattle.items.specs.Items.{Begins, ItemStands, itemFrom, itemIn, heldIn, ItemAt, PartsOf, PartsAt, Placed}
+use Rattle.items.specs.Items.{Begins, ItemStands, itemFrom, itemIn, heldIn, PartsAt, Placed}
 
 -- ---- item x and then t stand from `at` on
 module _ (s : List ℕ) (at : ℕ) (x : Item) (t : List ℕ) (e : drop at s ≡ frame (itemRec x) ++ t) where
@@ -121,18 +121,6 @@ module _ (s : List ℕ) (at k r : ℕ) (ek : k ≡ getD s (at + 4) 0) (er : r �
     whole : itemFrom s (at + 6) k r ≡ x
     whole = same-item x forward-is reverse-is phi-is psi-is
 
-    -- what `parts_at` makes of the bytes
-    parts : PartsOf s (record { k = k; r = r; forward = at + 6; reverse = at + 6 + k; masks = at + 6 + k + r; next = at + 6 + k + r + 16 }) x
-    parts =
-        record {
-          k-is = hk;
-          r-is = hr;
-          forward-is = forward-is;
-          reverse-is = reverse-is;
-          forward-in = omega (arith, inside s at x t (stands h), hk, hr);
-          reverse-in = omega (arith, inside s at x t (stands h), hk, hr);
-        }
-
   held : heldIn s (record { k = k; r = r; forward = at + 6; reverse = at + 6 + k; masks = at + 6 + k + r; next = at + 6 + k + r + 16 }) ≡ itemIn s at
   unfolding itemIn
   held = rw (ek, er)
@@ -140,37 +128,20 @@ module _ (s : List ℕ) (at k r : ℕ) (ek : k ≡ getD s (at + 4) 0) (er : r �
   pub read-parts : k < 256 → r < 256
       → PartsAt s at (record { k = k; r = r; forward = at + 6; reverse = at + 6 + k; masks = at + 6 + k + r; next = at + 6 + k + r + 16 })
   read-parts lk lr =
-      record { k-byte = lk; r-byte = lr; past = λ l. omega arith; held = held; inside = (omega arith, omega arith); parts = parts; next = next }
+      record { k-byte = lk; r-byte = lr; past = λ l. omega arith; held = held; inside = (omega arith, omega arith); next = next }
 
 -- the item that stands there is the book's
 pub item-is : {s : List ℕ} {b : Book} {i at : ℕ} → ItemStands s b i at → itemIn s at ≡ item (itemsOf b) i
 unfolding itemIn
 item-is {s} {b} {i} {at} h = whole s at (getD s (at + 4) 0) (getD s (at + 5) 0) refl refl h
 
--- what `item_at` makes of its parts
-pub read-item : {s : List ℕ} {at : ℕ} {p : Parts} → PartsAt s at p → (phi psi : ℕ) → phi ≡ leAt 8 s (p .masks) → psi ≡ leAt 8 s (p .masks + 8)
-    → ItemAt s at (record { k = p .k; r = p .r; forward = p .forward; reverse = p .reverse; phi = phi; psi = psi; next = p .next })
-read-item {s} {at} {p} c phi psi ep eq =
-    record {
-      k-byte = c .k-byte;
-      r-byte = c .r-byte;
-      past = c .past;
-      fields =
-          λ h.
-          let q = c .parts h in
-          let e = c .held ∙ item-is h in
-          record {
-            k-is = q .k-is;
-            r-is = q .r-is;
-            phi-is = ep ∙ ap (λ (x : Item). x .phi) e;
-            psi-is = eq ∙ ap (λ (x : Item). x .psi) e;
-            forward-is = sym (piece-take (p .k) s (p .forward) (q .forward-in)) ∙ q .forward-is;
-            reverse-is = sym (piece-take (p .r) s (p .reverse) (q .reverse-in)) ∙ q .reverse-is;
-            forward-in = q .forward-in;
-            reverse-in = q .reverse-in;
-          };
-      next = c .next;
-    }
+-- and its counts are those that were read
+module _ {s : List ℕ} {at : ℕ} {p : Parts} (c : PartsAt s at p) where
+  pub k-held : p .k ≡ length (itemIn s at .forward)
+  k-held = sym (length-piece (p .k) s (p .forward)) ∙ ap (λ (x : Item). length (x .forward)) (c .held)
+
+  pub r-held : p .r ≡ length (itemIn s at .reverse)
+  r-held = sym (length-piece (p .r) s (p .reverse)) ∙ ap (λ (x : Item). length (x .reverse)) (c .held)
 
 -- and the items at a book's places are its items
 pub placed-items : {s places : List ℕ} → Placed s places → (b : Book) → AllowedBook b → bytesOf b ≡ s
@@ -206,6 +177,5 @@ parts-none s at l =
           none-from s (at + 6) (getD s (at + 4) 0) (getD s (at + 5) 0) (omega arith)
           (List·getD-eq-default s 0 k-past) (List·getD-eq-default s 0 r-past);
       inside = (omega arith, omega arith);
-      parts = λ h. absurd (omega (arith, in-book h));
       next = λ h. absurd (omega (arith, in-book h));
     }

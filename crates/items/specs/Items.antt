@@ -2,12 +2,10 @@
 use mathlib.Core.Path.{_≡_}
 use mathlib.Core.List.{List, _++_, map}
 use Prim.Native.Nat.{ℕ, _+_, _≤_, _<_}
-use lib.ListN.{length, getD, take, drop}
+use lib.ListN.{length, getD, drop}
 use Rattle.reversal.specs.Reversal.{Item}
-use Rattle.reversal.specs.Chains.{item}
 use Rattle.octets.specs.Parts.{leAt, piece}
 use Rattle.book.specs.Book.{Book, AllowedBook, bytesOf, framed, moveRec, itemRec, itemsOf}
-use Rattle.items.specs.declared.Place.{Place}
 use Rattle.items.specs.declared.Parts.{Parts}
 
 -- the contract of `weight_at`
@@ -58,42 +56,14 @@ heldIn s p =
       psi = leAt 8 s (p .masks + 8);
     }
 
--- what is read where item x stands
-pub record Fields (s : List ℕ) (p : Place) (x : Item) : Type 0 where
-  pub k-is : p .k ≡ length (x .forward)
-  pub r-is : p .r ≡ length (x .reverse)
-  pub phi-is : p .phi ≡ x .phi
-  pub psi-is : p .psi ≡ x .psi
-  pub forward-is : take (p .k) (drop (p .forward) s) ≡ x .forward
-  pub reverse-is : take (p .r) (drop (p .reverse) s) ≡ x .reverse
-  pub forward-in : p .forward + p .k ≤ length s
-  pub reverse-in : p .reverse + p .r ≤ length s
-
--- the contract of `item_at`
-pub record ItemAt (s : List ℕ) (at : ℕ) (p : Place) : Type 0 where
-  pub k-byte : p .k < 256
-  pub r-byte : p .r < 256
-  pub past : at < length s → at < p .next
-  pub fields : {b : Book} {i : ℕ} → ItemStands s b i at → Fields s p (item (itemsOf b) i)
-  pub next : {b : Book} {i : ℕ} → ItemStands s b i at → Begins s b (i + 1) (p .next)
-
--- where the parts of item x stand
-pub record PartsOf (s : List ℕ) (p : Parts) (x : Item) : Type 0 where
-  pub k-is : p .k ≡ length (x .forward)
-  pub r-is : p .r ≡ length (x .reverse)
-  pub forward-is : piece (p .k) s (p .forward) ≡ x .forward
-  pub reverse-is : piece (p .r) s (p .reverse) ≡ x .reverse
-  pub forward-in : p .forward + p .k ≤ length s
-  pub reverse-in : p .reverse + p .r ≤ length s
-
--- the contract of `parts_at`; the commands stand before `next`
+-- the contract of `parts_at`: the parts are those of the item there, and its commands stand before `next`; where an item of a book stands the next one's
+-- record begins at `next`
 pub record PartsAt (s : List ℕ) (at : ℕ) (p : Parts) : Type 0 where
   pub k-byte : p .k < 256
   pub r-byte : p .r < 256
   pub past : at < length s → at < p .next
   pub held : heldIn s p ≡ itemIn s at
   pub inside : (p .forward + p .k ≤ p .next) × (p .reverse + p .r ≤ p .next)
-  pub parts : {b : Book} {i : ℕ} → ItemStands s b i at → PartsOf s p (item (itemsOf b) i)
   pub next : {b : Book} {i : ℕ} → ItemStands s b i at → Begins s b (i + 1) (p .next)
 
 -- the contract of `first_item`

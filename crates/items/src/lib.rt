@@ -5,9 +5,10 @@ ghost use mathlib.Core.Path.{_≡_};
 ghost use Prim.Native.Nat.{_+_, _<_, _≤_};
 ghost use lib.ListN.{length};
 ghost use Rattle.octets.specs.Parts.{leAt};
-ghost use Rattle.items.specs.Items.{WeightAt, FirstMove, ItemAt, heldIn, PartsAt, FirstItem, Placed};
+ghost use Rattle.items.specs.Items.{WeightAt, FirstMove, heldIn, PartsAt, FirstItem, Placed};
 
-// Where the item stands whose record begins at a place: its counts, the places of its commands each way and of its two masks, and the place past it.
+// What is read of an item's record: the counts of its commands each way, the places where they and the two masks stand, and the place past the record.
+// `phi` and `psi` read the masks.
 pub struct Parts {
     pub k: usize,
     pub r: usize,
@@ -17,6 +18,7 @@ pub struct Parts {
     pub next: usize,
 }
 
+// Of the record that begins at a place.
 pub fn parts_at(book: &[u8], at: usize) -> Parts
     ensures { λ p. ⌜ PartsAt (now (book .entry)) at p ⌝ }
 {
@@ -62,34 +64,6 @@ pub fn psi(book: &[u8], item: Parts) -> u64
         return 0;
     }
     octets::u64_at(book, item.masks + 8)
-}
-
-// The same with its masks in the place of where they stand.
-pub struct Place {
-    pub k: usize,
-    pub r: usize,
-    pub forward: usize,
-    pub reverse: usize,
-    pub phi: u64,
-    pub psi: u64,
-    pub next: usize,
-}
-
-pub fn item_at(book: &[u8], at: usize) -> Place
-    ensures { λ p. ⌜ ItemAt (now (book .entry)) at p ⌝ }
-{
-    let item = parts_at(book, at);
-    let phi = phi(book, item);
-    let psi = psi(book, item);
-    Place {
-        k: item.k,
-        r: item.r,
-        forward: item.forward,
-        reverse: item.reverse,
-        phi: phi,
-        psi: psi,
-        next: item.next,
-    }
 }
 
 // The weight of a command: its two bytes in the record after the device, 1 where no record of weights stands there.

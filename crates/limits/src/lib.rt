@@ -1,5 +1,4 @@
 // 01's and 02's limits of a device, a weight, a move and an item, each judged by one function for reading, writing and every other call.
-use states::StateSet;
 ghost use mathlib.Core.Path.{_≡_};
 ghost use Rattle.base.specs.Masks.{clearFrom};
 ghost use Rattle.book.specs.Limits.{deviceFine, weightFine, moveFine, moveWith, countsFine, allBelow, fieldsFine, itemWith};
@@ -36,11 +35,11 @@ pub fn weight_fine(w: u64) -> bool
     true
 }
 
-// Whether a mask has no bit at n or above.
+// Whether a mask has no bit at n or above; none has one at 64 or above.
 pub fn mask_fine(mask: u64, n: u64) -> bool
     ensures { λ r. ⌜ r ≡ clearFrom n mask ⌝ }
 {
-    StateSet::of(mask).clear_from(n)
+    if n < 64 { mask >> n == 0 } else { true }
 }
 
 // Whether a device with n states and m commands may have this move.

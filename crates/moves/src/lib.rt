@@ -79,7 +79,12 @@ fn count_below(set: u64, n: u64) -> u64
     ensures { λ r. ⌜ r ≡ cardinality n set ⌝ }
     ensures { λ r. ⌜ r ≤ 64 ⌝ }
 {
-    u64::count_ones(set & ((1 << n) - 1)) as u64
+    let all = (1 << n) - 1;
+    let below = set & all;
+    if below == all {
+        return n;
+    }
+    u64::count_ones(below) as u64
 }
 
 // The outcomes of a command by a state's row; 0 where the row does not have the command.

@@ -15,6 +15,7 @@ use Rattle.reversal.specs.Twelve.{itemsQ}
 use Rattle.book.specs.Example.{bytesQ}
 use Rattle.checker.proofs.Cases.{accepted-Q}
 use Rattle.runs.specs.RunBytes.{runBytes}
+use Rattle.assembly.specs.Asked.{Asked, asked}
 use Rattle.assembly.specs.declared.Assembly.{Assembly}
 use Rattle.assembly.specs.Lent.{inBytes, Room, AllLent, allSizes}
 use Rattle.assembly.specs.Assembles.{Left}
@@ -51,7 +52,7 @@ module _ (u : Run) (a : Answer) (gives : BytesGive inBytes bytesQ u a) where
   given : a .code ≡ 0 → length (a .plan-legs) ≡ a .leg-count → PageGiven u (pageOf itemsQ (a .plan-legs))
   given z counted = record { written = go }
     where
-      go : {l : AllLent ℕ} {page : List ℕ} {r : Paged} {l′ : AllLent ℕ} {page′ : List ℕ} → Pages bytesQ (runBytes u) l page r l′ page′
+      go : {l : AllLent ℕ} {page : List ℕ} {r : Paged} {l′ : AllLent ℕ} {page′ : List ℕ} → Pages (asked bytesQ (runBytes u)) l page r l′ page′
           → LongEnough (allSizes inBytes l) → LongEnough (pageSizes page)
           → Written (pageOf itemsQ (a .plan-legs)) page page′ × (r .length ≡ length (pageOf itemsQ (a .plan-legs)))
       go (short k e i j) long h = absurd (k h)
@@ -61,13 +62,13 @@ module _ (u : Run) (a : Answer) (gives : BytesGive inBytes bytesQ u a) where
   untouched : (a .code ≡ 0 → ⊥) → PageGiven u []
   untouched n = record { written = go }
     where
-      go : {l : AllLent ℕ} {page : List ℕ} {r : Paged} {l′ : AllLent ℕ} {page′ : List ℕ} → Pages bytesQ (runBytes u) l page r l′ page′
+      go : {l : AllLent ℕ} {page : List ℕ} {r : Paged} {l′ : AllLent ℕ} {page′ : List ℕ} → Pages (asked bytesQ (runBytes u)) l page r l′ page′
           → LongEnough (allSizes inBytes l) → LongEnough (pageSizes page) → Written [] page page′ × (r .length ≡ 0)
       go (short k e i j) long h = absurd (k h)
       go {page = page} {page′ = page′} (refused k x m e j) long h = (stored [] page page′ (omega arith) j, e)
       go (laid k x y d) long h = absurd (n (sym (code-of (gives .left x long)) ∙ y))
 
-short-page : {book run : List ℕ} {l : AllLent ℕ} {page : List ℕ} {r : Paged} {l′ : AllLent ℕ} {page′ : List ℕ} → Pages book run l page r l′ page′
+short-page : {ask : Asked} {l : AllLent ℕ} {page : List ℕ} {r : Paged} {l′ : AllLent ℕ} {page′ : List ℕ} → Pages ask l page r l′ page′
     → length page ≡ 1311
     → (r ≡ record { assembly = record { code = 1; place = 0; commands = 0; legs = 0; sum = 0; fewest = replicate 33 4294967295 }; length = 0 })
     × (l′ ≡ l) × (page′ ≡ page)

@@ -14,6 +14,7 @@ use Rattle.reversal.specs.Reversal.{Item}
 use Rattle.reversal.specs.Runs.{Run, last}
 use Rattle.reversal.specs.Chains.{Leg, legsOf}
 use Rattle.book.specs.Book.{Book, itemsFor}
+use Rattle.assembly.specs.Asked.{Asked}
 use Rattle.assembly.specs.Lent.{inBytes, AllLent}
 use Rattle.assembly.specs.LegsRead.{legsRead}
 use Rattle.assembly.specs.Assembles.{Assembles}
@@ -35,18 +36,18 @@ lines-same f g [] k h = refl
 lines-same f g (l ∷ ls) k h = rw (h .0, lines-same f g ls (k + 1) (h .1))
 
 -- ---- the call
-module _ {book run : List ℕ} {l : AllLent ℕ} {page : List ℕ} {r : Paged} {l′ : AllLent ℕ} {page′ : List ℕ} (c : PageAs book run l page r l′ page′) where
+module _ {ask : Asked} {l : AllLent ℕ} {page : List ℕ} {r : Paged} {l′ : AllLent ℕ} {page′ : List ℕ} (c : PageAs ask l page r l′ page′) where
   module _ (long : LongEnough (pageSizes page)) where
-    abbrev a : Assembles inBytes book run l (r .assembly) l′
+    abbrev a : Assembles inBytes ask l (r .assembly) l′
     a = assembles even-bytes (c .enough long)
 
-    not-given : (r .assembly .code ≡ 0 → ⊥) → Pages book run l page r l′ page′
+    not-given : (r .assembly .code ≡ 0 → ⊥) → Pages ask l page r l′ page′
     unfolding linesFrom legsRead
     not-given n =
         let none : pageIn (l′ .read .slots) (l′ .room .legs) (r .assembly .legs) ≡ [] = ap (pageIn (l′ .read .slots) (l′ .room .legs)) (none-counted a n .1) in
         refused long a n (c .length-is long ∙ ap length none) (c .page-is long ∙ ap (sets page 0) none)
 
-    module _ (z : r .assembly .code ≡ 0) (b : Book) (u : Run) (g : Given book run b u) (p : Planned inBytes b u (r .assembly) (l′ .room)) where
+    module _ (z : r .assembly .code ≡ 0) (b : Book) (u : Run) (g : Given ask b u) (p : Planned inBytes b u (r .assembly) (l′ .room)) where
       abbrev ls : List Leg
       ls = legsOf (itemsFor b) (last u) (p .items)
 
@@ -61,7 +62,7 @@ module _ {book run : List ℕ} {l : AllLent ℕ} {page : List ℕ} {r : Paged} {
           (legs-read ls (l′ .room .legs) (r .assembly .legs) (length-legs (itemsFor b) (p .items) (last u) ∙ sym (p .legs-counted)) (p .legs-written))
           ∙ lines-same (reverseIn (l′ .read .slots)) (reverseOf (itemsFor b)) ls 1 known
 
-      given-page : Laid book r (l′ .room .legs) page page′
+      given-page : Laid (ask .book) r (l′ .room .legs) page page′
       given-page =
           record {
             the-book = b;
@@ -74,17 +75,17 @@ module _ {book run : List ℕ} {l : AllLent ℕ} {page : List ℕ} {r : Paged} {
             length-is = c .length-is long ∙ ap length page-same;
           }
 
-    on-code : Dec (0 < r .assembly .code) → Pages book run l page r l′ page′
+    on-code : Dec (0 < r .assembly .code) → Pages ask l page r l′ page′
     on-code (yes h) = not-given (λ z. omega arith)
     on-code (no h) =
         let z : r .assembly .code ≡ 0 = omega arith in
         let (b, (u, g, p)) = demand even-bytes (c .bytes) a .plan-given z in
         laid long a z (given-page z b u g p)
 
-  pub laid-out : Pages book run l page r l′ page′
+  pub laid-out : Pages ask l page r l′ page′
   laid-out = go (decLt (length page) 1312)
     where
-      go : Dec (length page < 1312) → Pages book run l page r l′ page′
+      go : Dec (length page < 1312) → Pages ask l page r l′ page′
       go (yes h) =
           let n : LongEnough (pageSizes page) → ⊥ = λ w. omega (arith, w .0) in
           let (e, k, q) = c .short n in short n e k q

@@ -8,3 +8,4 @@ pub mod Exactly
 pub mod TakenDown
 pub mod Unique
 pub mod Cases
+pub mod Edges

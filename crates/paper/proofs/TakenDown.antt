@@ -8,6 +8,7 @@ use Rattle.base.specs.Lists.{Each, Bytes}
 use Rattle.reversal.specs.Runs.{Run, last}
 use Rattle.reversal.specs.Chains.{Leg, legsOf}
 use Rattle.book.specs.Book.{Book, itemsFor}
+use Rattle.assembly.specs.Asked.{Asked}
 use Rattle.assembly.specs.Lent.{inBytes, AllLent}
 use Rattle.assembly.specs.Demand.{Given, Planned}
 use Rattle.assembly.proofs.Exactly.{even-bytes, length-legs}
@@ -36,8 +37,8 @@ nothing r l′ page′ n c g =
     }
 
 -- the legs that were written are a chain's, and these are laid out
-module _ (book run page : List ℕ) (r : Paged) (l′ : AllLent ℕ) (page′ : List ℕ) (b : Book) (u : Run) (g : Given book run b u)
-    (p : Planned inBytes b u (r .assembly) (l′ .room)) (d : Laid book r (l′ .room .legs) page page′) where
+module _ (ask : Asked) (page : List ℕ) (r : Paged) (l′ : AllLent ℕ) (page′ : List ℕ) (b : Book) (u : Run) (g : Given ask b u)
+    (p : Planned inBytes b u (r .assembly) (l′ .room)) (d : Laid (ask .book) r (l′ .room .legs) page page′) where
   abbrev ls : List Leg
   ls = legsOf (itemsFor b) (last u) (p .items)
 
@@ -67,14 +68,14 @@ module _ (book run page : List ℕ) (r : Paged) (l′ : AllLent ℕ) (page′ : 
         long = omega (arith, d .length-is, ap length same-text, back .long, count);
       }
 
-module _ {book run : List ℕ} {l : AllLent ℕ} {page : List ℕ} {r : Paged} {l′ : AllLent ℕ} {page′ : List ℕ} (h : Bytes book) where
-  pub taken-down : Pages book run l page r l′ page′ → TakenDown r l′ page′
+module _ {ask : Asked} {l : AllLent ℕ} {page : List ℕ} {r : Paged} {l′ : AllLent ℕ} {page′ : List ℕ} (h : Bytes (ask .book)) where
+  pub taken-down : Pages ask l page r l′ page′ → TakenDown r l′ page′
   taken-down (short k e i j) =
       nothing r l′ page′ (ap (λ (x : Paged). x .length) e) (ap (λ (x : Paged). x .assembly .commands) e) (ap (λ (x : Paged). x .assembly .legs) e)
   taken-down (refused long a n e k) = let (c, g, s) = none-counted a n in nothing r l′ page′ e c g
-  taken-down (laid long a z d) = let (b, (u, g, p)) = demand even-bytes h a .plan-given z in all-taken book run page r l′ page′ b u g p d
+  taken-down (laid long a z d) = let (b, (u, g, p)) = demand even-bytes h a .plan-given z in all-taken ask page r l′ page′ b u g p d
 
-  pub page-demand : Pages book run l page r l′ page′ → PageDemand book run l page r l′ page′
+  pub page-demand : Pages ask l page r l′ page′ → PageDemand ask l page r l′ page′
   page-demand (short k e i j) =
       record {
         enough = λ m. absurd (k m);
@@ -87,5 +88,5 @@ module _ {book run : List ℕ} {l : AllLent ℕ} {page : List ℕ} {r : Paged} {
       record {
         enough = λ _. demand even-bytes h a;
         short = λ m. absurd (m long);
-        chain-laid = λ _ b u g p. chain-text book run page r l′ page′ b u g p d;
+        chain-laid = λ _ b u g p. chain-text ask page r l′ page′ b u g p d;
       }

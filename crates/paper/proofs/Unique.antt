@@ -6,6 +6,7 @@ use lib.ListN.{length, take}
 use Rattle.base.specs.Lists.{Bytes, Written}
 use Rattle.base.specs.Sizes.{LongEnough}
 use Rattle.base.proofs.Lists.{same-written}
+use Rattle.assembly.specs.Asked.{Asked}
 use Rattle.assembly.specs.declared.Assembly.{Assembly}
 use Rattle.assembly.specs.Lent.{inBytes, AllLent}
 use Rattle.assembly.specs.Assembles.{Assembles}
@@ -25,15 +26,15 @@ same-laid {book} {r} {q} {legs} {legs′} {page} {page′} e f d v =
     let t = one-text d (v .accepted) (v .legs) (n ∙ v .legs-are) in
     (d .length-is ∙ ap length t ∙ sym (v .length-is), same-written (subst (λ (x : List ℕ). Written x page page′) t (d .written)) (v .written))
 
-module _ {book run : List ℕ} {l : AllLent ℕ} {page : List ℕ} (h : Bytes book) {r : Paged} {l′ : AllLent ℕ} {page′ : List ℕ} where
+module _ {ask : Asked} {l : AllLent ℕ} {page : List ℕ} (h : Bytes (ask .book)) {r : Paged} {l′ : AllLent ℕ} {page′ : List ℕ} where
   -- "The call takes and fills what assembling does", "It refuses as assembling does": where the page is long enough
-  pub as-assembling : Pages book run l page r l′ page′ → LongEnough (pageSizes page) → {q : Assembly} {l″ : AllLent ℕ} → Assembles inBytes book run l q l″
+  pub as-assembling : Pages ask l page r l′ page′ → LongEnough (pageSizes page) → {q : Assembly} {l″ : AllLent ℕ} → Assembles inBytes ask l q l″
       → (r .assembly ≡ q) × (l′ ≡ l″)
   as-assembling (short k e i j) long y = absurd (k long)
   as-assembling (refused k x n e j) long y = assembles-unique h x y
   as-assembling (laid k x z d) long y = assembles-unique h x y
 
-  pub pages-unique : {q : Paged} {l″ : AllLent ℕ} {page″ : List ℕ} → Pages book run l page r l′ page′ → Pages book run l page q l″ page″
+  pub pages-unique : {q : Paged} {l″ : AllLent ℕ} {page″ : List ℕ} → Pages ask l page r l′ page′ → Pages ask l page q l″ page″
       → (r ≡ q) × (l′ ≡ l″) × (page′ ≡ page″)
   pages-unique (short k e i j) (short k′ e′ i′ j′) = (e ∙ sym e′, i ∙ sym i′, j ∙ sym j′)
   pages-unique (short k e i j) (refused long y n e′ j′) = absurd (k long)

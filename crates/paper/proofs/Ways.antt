@@ -5,6 +5,7 @@ use Prim.Native.Nat.{ℕ, _≤_, _<_}
 use native.Mathlib.Omega.{arith}
 use lib.ListN.{length}
 use Rattle.base.specs.Lists.{Bytes}
+use Rattle.assembly.specs.Asked.{Asked}
 use Rattle.assembly.specs.declared.Assembly.{Assembly}
 use Rattle.assembly.specs.Lent.{inBytes, AllLent}
 use Rattle.assembly.specs.Assembles.{refusal}
@@ -13,8 +14,8 @@ use Rattle.show.specs.Written.{Written}
 use Rattle.show.proofs.Texts.{at-start}
 use Rattle.paper.specs.Contract.{pageIn, PageAs}
 
-module _ {book run : List ℕ} {l : AllLent ℕ} {page : List ℕ} {a : Assembly} where
-  pub page-short : Bytes book → length page < 1312 → a ≡ refusal 1 0 → PageAs book run l page (record { assembly = a; length = 0 }) l page
+module _ {ask : Asked} {l : AllLent ℕ} {page : List ℕ} {a : Assembly} where
+  pub page-short : Bytes (ask .book) → length page < 1312 → a ≡ refusal 1 0 → PageAs ask l page (record { assembly = a; length = 0 }) l page
   page-short h k e =
       record {
         bytes = h;
@@ -24,8 +25,8 @@ module _ {book run : List ℕ} {l : AllLent ℕ} {page : List ℕ} {a : Assembly
         length-is = λ m. absurd (omega (arith, m .0));
       }
 
-  pub page-long : {l′ : AllLent ℕ} {page′ : List ℕ} {n : ℕ} → 1312 ≤ length page → AssembleAs inBytes book run l a l′
-      → Written page 0 (pageIn (l′ .read .slots) (l′ .room .legs) (a .legs)) page′ n → PageAs book run l page (record { assembly = a; length = n }) l′ page′
+  pub page-long : {l′ : AllLent ℕ} {page′ : List ℕ} {n : ℕ} → 1312 ≤ length page → AssembleAs inBytes ask l a l′
+      → Written page 0 (pageIn (l′ .read .slots) (l′ .room .legs) (a .legs)) page′ n → PageAs ask l page (record { assembly = a; length = n }) l′ page′
   page-long k c w =
       record {
         bytes = c .bytes;

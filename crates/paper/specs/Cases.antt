@@ -10,6 +10,7 @@ use Rattle.reversal.specs.Runs.{Run}
 use Rattle.reversal.specs.Twelve.{run, leg}
 use Rattle.book.specs.Example.{bytesQ}
 use Rattle.runs.specs.RunBytes.{runBytes}
+use Rattle.assembly.specs.Asked.{Asked, asked}
 use Rattle.assembly.specs.Lent.{inBytes, AllLent, allSizes}
 use Rattle.paper.specs.declared.Paged.{Paged}
 use Rattle.paper.specs.Layout.{lineOf}
@@ -33,7 +34,7 @@ pub record Lines : Type 0 where
 
 -- in buffers that are long enough, with Q's book: the text, and all else of the page kept
 pub record PageGiven (u : Run) (text : List ℕ) : Type 0 where
-  pub written : {l : AllLent ℕ} {page : List ℕ} {r : Paged} {l′ : AllLent ℕ} {page′ : List ℕ} → Pages bytesQ (runBytes u) l page r l′ page′
+  pub written : {l : AllLent ℕ} {page : List ℕ} {r : Paged} {l′ : AllLent ℕ} {page′ : List ℕ} → Pages (asked bytesQ (runBytes u)) l page r l′ page′
       → LongEnough (allSizes inBytes l) → LongEnough (pageSizes page) → Written text page page′ × (r .length ≡ length text)
 
 pub record PageRuns : Type 0 where
@@ -52,7 +53,7 @@ pub record PageRuns : Type 0 where
   -- "empty plan": no legs
   pub q11 : PageGiven (run [] (7 ∷ [])) []
   -- a page of 1,311 bytes, whatever book, run and other buffers are
-  pub short : {book run : List ℕ} {l : AllLent ℕ} {page : List ℕ} {r : Paged} {l′ : AllLent ℕ} {page′ : List ℕ} → Pages book run l page r l′ page′
+  pub short : {ask : Asked} {l : AllLent ℕ} {page : List ℕ} {r : Paged} {l′ : AllLent ℕ} {page′ : List ℕ} → Pages ask l page r l′ page′
       → length page ≡ 1311
       → (r ≡ record { assembly = record { code = 1; place = 0; commands = 0; legs = 0; sum = 0; fewest = replicate 33 4294967295 }; length = 0 })
       × (l′ ≡ l) × (page′ ≡ page)

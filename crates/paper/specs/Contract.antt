@@ -8,6 +8,7 @@ use lib.Seq.{sets}
 use Rattle.base.specs.Lists.{Bytes}
 use Rattle.base.specs.Sizes.{LongEnough}
 use Rattle.book.specs.Slots.{itemAt}
+use Rattle.assembly.specs.Asked.{Asked}
 use Rattle.assembly.specs.Lent.{inBytes, AllLent}
 use Rattle.assembly.specs.LegsRead.{legsRead}
 use Rattle.assembly.specs.Assembles.{refusal}
@@ -25,9 +26,9 @@ abbrev pub pageIn : List ℕ → List ℕ → ℕ → List ℕ
 pageIn slots legs count = linesFrom (reverseIn slots) 1 (legsRead legs count 0)
 
 -- the contract of `lay_out`: buffers l and page at entry; result r and buffers l′ and page′ at exit
-pub record PageAs (book run : List ℕ) (l : AllLent ℕ) (page : List ℕ) (r : Paged) (l′ : AllLent ℕ) (page′ : List ℕ) : Type 0 where
-  pub bytes : Bytes book
+pub record PageAs (ask : Asked) (l : AllLent ℕ) (page : List ℕ) (r : Paged) (l′ : AllLent ℕ) (page′ : List ℕ) : Type 0 where
+  pub bytes : Bytes (ask .book)
   pub short : (LongEnough (pageSizes page) → ⊥) → (r ≡ record { assembly = refusal 1 0; length = 0 }) × (l′ ≡ l) × (page′ ≡ page)
-  pub enough : LongEnough (pageSizes page) → AssembleAs inBytes book run l (r .assembly) l′
+  pub enough : LongEnough (pageSizes page) → AssembleAs inBytes ask l (r .assembly) l′
   pub page-is : LongEnough (pageSizes page) → page′ ≡ sets page 0 (pageIn (l′ .read .slots) (l′ .room .legs) (r .assembly .legs))
   pub length-is : LongEnough (pageSizes page) → r .length ≡ length (pageIn (l′ .read .slots) (l′ .room .legs) (r .assembly .legs))

@@ -3,3 +3,4 @@ pub mod Taken
 pub mod Pages
 pub mod Contract
 pub mod Cases
+pub mod Edges

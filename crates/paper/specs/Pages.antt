@@ -9,6 +9,7 @@ use Rattle.reversal.specs.Runs.{Run, last}
 use Rattle.reversal.specs.Chains.{Leg, legsOf}
 use Rattle.book.specs.Book.{Book, itemsFor}
 use Rattle.checker.specs.Checks.{AcceptedBook}
+use Rattle.assembly.specs.Asked.{Asked}
 use Rattle.assembly.specs.Lent.{legsBytes, inBytes, AllLent}
 use Rattle.assembly.specs.Assembles.{refusal, Assembles}
 use Rattle.assembly.specs.Demand.{Given, Planned, Demand}
@@ -30,21 +31,21 @@ abbrev pub pageSizes : List ℕ → List Sized
 pageSizes page = (length page for 1312) ∷ []
 
 -- of a book, a run, the buffers that assembling takes and a page, at entry; the result and the buffers at exit
-pub data Pages (book run : List ℕ) (l : AllLent ℕ) (page : List ℕ) (r : Paged) (l′ : AllLent ℕ) (page′ : List ℕ) : Type 0 where
+pub data Pages (ask : Asked) (l : AllLent ℕ) (page : List ℕ) (r : Paged) (l′ : AllLent ℕ) (page′ : List ℕ) : Type 0 where
   -- "a shorter one is code 1"; 01: "all untouched"
-  short : (LongEnough (pageSizes page) → ⊥) → r ≡ record { assembly = refusal 1 0; length = 0 } → l′ ≡ l → page′ ≡ page → Pages book run l page r l′ page′
+  short : (LongEnough (pageSizes page) → ⊥) → r ≡ record { assembly = refusal 1 0; length = 0 } → l′ ≡ l → page′ ≡ page → Pages ask l page r l′ page′
   -- "The call takes and fills what assembling does", "It refuses as assembling does, page untouched, length 0"
-  refused : LongEnough (pageSizes page) → Assembles inBytes book run l (r .assembly) l′ → (r .assembly .code ≡ 0 → ⊥) → r .length ≡ 0 → page′ ≡ page
-      → Pages book run l page r l′ page′
+  refused : LongEnough (pageSizes page) → Assembles inBytes ask l (r .assembly) l′ → (r .assembly .code ≡ 0 → ⊥) → r .length ≡ 0 → page′ ≡ page
+      → Pages ask l page r l′ page′
   -- "Lay it out with one line per leg"
-  laid : LongEnough (pageSizes page) → Assembles inBytes book run l (r .assembly) l′ → r .assembly .code ≡ 0 → Laid book r (l′ .room .legs) page page′
-      → Pages book run l page r l′ page′
+  laid : LongEnough (pageSizes page) → Assembles inBytes ask l (r .assembly) l′ → r .assembly .code ≡ 0 → Laid (ask .book) r (l′ .room .legs) page page′
+      → Pages ask l page r l′ page′
 
 -- demand 3 of this call is assembling's, where the page is no fault; and the chain that it speaks of is the one laid out
-pub record PageDemand (book run : List ℕ) (l : AllLent ℕ) (page : List ℕ) (r : Paged) (l′ : AllLent ℕ) (page′ : List ℕ) : Type 0 where
-  pub enough : LongEnough (pageSizes page) → Demand inBytes book run l (r .assembly) l′
+pub record PageDemand (ask : Asked) (l : AllLent ℕ) (page : List ℕ) (r : Paged) (l′ : AllLent ℕ) (page′ : List ℕ) : Type 0 where
+  pub enough : LongEnough (pageSizes page) → Demand inBytes ask l (r .assembly) l′
   pub short : (LongEnough (pageSizes page) → ⊥) → r .assembly .code ≡ 1
-  pub chain-laid : r .assembly .code ≡ 0 → (b : Book) (u : Run) → Given book run b u → (p : Planned inBytes b u (r .assembly) (l′ .room))
+  pub chain-laid : r .assembly .code ≡ 0 → (b : Book) (u : Run) → Given ask b u → (p : Planned inBytes b u (r .assembly) (l′ .room))
       → take (r .length) page′ ≡ pageOf (itemsFor b) (legsOf (itemsFor b) (last u) (p .items))
 
 -- k, k + 1, .. : n numbers

@@ -5,6 +5,7 @@ ghost use mathlib.Core.List.{[], _∷_};
 ghost use Prim.Native.Nat.{_+_, _^_, _<_, _≤_, min};
 ghost use lib.ListN.{length, take, drop, replicate};
 ghost use Rattle.book.specs.Lent.{lent};
+ghost use Rattle.assembly.specs.Asked.{asked};
 ghost use Rattle.assembly.specs.Lent.{allLent};
 ghost use Rattle.assembly.specs.LegsRead.{legRead};
 ghost use Rattle.show.specs.Show.{space, rightAligned};
@@ -128,7 +129,7 @@ pub fn lay_out(
     legs: &mut [u8],
     page: &mut [u8],
 ) -> Paged
-    ensures { λ r. ⌜ PageAs (now (book .entry)) (now (run .entry))
+    ensures { λ r. ⌜ PageAs (asked (now (book .entry)) (now (run .entry)))
         (allLent (lent (now (table .entry)) (now (slots .entry)) (now (weights .entry))) (now (plan .entry)) (now (legs .entry))) (now (page .entry)) r
         (allLent (lent (now (table .exit)) (now (slots .exit)) (now (weights .exit))) (now (plan .exit)) (now (legs .exit))) (now (page .exit)) ⌝ }
 {

@@ -7,6 +7,7 @@ use Rattle.reversal.specs.Runs.{Run}
 use Rattle.reversal.specs.Twelve.{run}
 use Rattle.book.specs.Example.{bytesQ}
 use Rattle.runs.specs.RunBytes.{runBytes}
+use Rattle.assembly.specs.Asked.{asked}
 use Rattle.assembly.specs.declared.Assembly.{Assembly}
 use Rattle.assembly.specs.Lent.{AllLent, allSizes}
 use Rattle.assembly.specs.Assembles.{Assembles}
@@ -18,7 +19,7 @@ leg item upper lower = record { item = item; upper = upper; lower = lower }
 
 -- in buffers that are long enough: the structs written, and all others kept
 pub record StructsGiven (u : Run) (ls : List Leg) : Type 0 where
-  pub written : {l : AllLent Leg} {r : Assembly} {l′ : AllLent Leg} → Assembles inStructs bytesQ (runBytes u) l r l′
+  pub written : {l : AllLent Leg} {r : Assembly} {l′ : AllLent Leg} → Assembles inStructs (asked bytesQ (runBytes u)) l r l′
       → LongEnough (allSizes inStructs l) → Written ls (l .room .legs) (l′ .room .legs)
 
 pub record StructRuns : Type 0 where

@@ -5,6 +5,7 @@ use Prim.Native.Nat.{ℕ, _≤_, _<_}
 use lib.ListN.{replicate}
 use Rattle.base.specs.Lists.{Each}
 use Rattle.book.specs.Lent.{Lent}
+use Rattle.assembly.specs.Asked.{Asked}
 use Rattle.assembly.specs.Lent.{inBytes, allLent}
 use Rattle.assembly.specs.LegsRead.{legRead, legsRead}
 use Rattle.assembly.specs.Assembles.{refusal}
@@ -26,10 +27,9 @@ abbrev pub zeros : List ℕ
 zeros = replicate 96 0
 
 -- assembling where there is room for 32 structs; else code 1, and all untouched
-pub record WholeAs (book run : List ℕ) (read : Lent) (plan : List ℕ) (room : ℕ) (w : Whole) (read′ : Lent) (plan′ : List ℕ) : Type 0 where
-  pub book-bytes : Each (λ x. x < 256) book
-  pub run-bytes : Each (λ x. x < 256) run
+pub record WholeAs (ask : Asked) (read : Lent) (plan : List ℕ) (room : ℕ) (w : Whole) (read′ : Lent) (plan′ : List ℕ) : Type 0 where
+  pub book-bytes : Each (λ x. x < 256) (ask .book)
   pub short : room < 32 → (w .result ≡ refusal 1 0) × (read′ ≡ read) × (plan′ ≡ plan)
-  pub enough : 32 ≤ room → AssembleAs inBytes book run (allLent read plan zeros) (w .result) (allLent read′ plan′ (w .bytes))
+  pub enough : 32 ≤ room → AssembleAs inBytes ask (allLent read plan zeros) (w .result) (allLent read′ plan′ (w .bytes))
   pub counted : w .count ≡ w .result .legs
   pub within : (w .count ≤ room) × (w .count ≤ 32)

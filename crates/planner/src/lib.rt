@@ -16,6 +16,7 @@ ghost use Rattle.reader.specs.Contract.{ReadAs};
 ghost use Rattle.checker.specs.Contract.{CheckAs};
 ghost use Rattle.forecast.specs.Contract.{ForecastAs};
 ghost use Rattle.writer.specs.Contract.{WriteAs};
+ghost use Rattle.assembly.specs.Asked.{asked};
 ghost use Rattle.assembly.specs.Contract.{AssembleAs, SmallAs};
 ghost use Rattle.assembly.specs.Lent.{inBytes, lentRoom, allLent};
 ghost use Rattle.paper.specs.Contract.{PageAs};
@@ -67,7 +68,7 @@ pub extern "C" fn rollback_assemble(
     plan: &mut [u8],
     legs: &mut [u8],
 ) -> Assembly
-    ensures { λ r. ⌜ AssembleAs inBytes (now (book .entry)) (now (run .entry))
+    ensures { λ r. ⌜ AssembleAs inBytes (asked (now (book .entry)) (now (run .entry)))
         (allLent (lent (now (table .entry)) (now (slots .entry)) (now (weights .entry))) (now (plan .entry)) (now (legs .entry))) r
         (allLent (lent (now (table .exit)) (now (slots .exit)) (now (weights .exit))) (now (plan .exit)) (now (legs .exit))) ⌝ }
 {
@@ -82,7 +83,7 @@ pub extern "C" fn rollback_assemble_small(
     plan: &mut [u8],
     legs: &mut [u8],
 ) -> Assembly
-    ensures { λ r. ⌜ SmallAs (now (book .entry)) (now (run .entry)) (now (scratch .entry)) (lentRoom (now (plan .entry)) (now (legs .entry))) r
+    ensures { λ r. ⌜ SmallAs (asked (now (book .entry)) (now (run .entry))) (now (scratch .entry)) (lentRoom (now (plan .entry)) (now (legs .entry))) r
         (now (scratch .exit)) (lentRoom (now (plan .exit)) (now (legs .exit))) ⌝ }
 {
     assembly::assemble_small(book, run, scratch, plan, legs)
@@ -99,7 +100,7 @@ pub extern "C" fn rollback_page(
     legs: &mut [u8],
     page: &mut [u8],
 ) -> Paged
-    ensures { λ r. ⌜ PageAs (now (book .entry)) (now (run .entry))
+    ensures { λ r. ⌜ PageAs (asked (now (book .entry)) (now (run .entry)))
         (allLent (lent (now (table .entry)) (now (slots .entry)) (now (weights .entry))) (now (plan .entry)) (now (legs .entry))) (now (page .entry)) r
         (allLent (lent (now (table .exit)) (now (slots .exit)) (now (weights .exit))) (now (plan .exit)) (now (legs .exit))) (now (page .exit)) ⌝ }
 {
@@ -160,7 +161,7 @@ fn assemble_whole(
     plan: &mut [u8],
     room: usize,
 ) -> Whole
-    ensures { λ r. ⌜ WholeAs (now (book .entry)) (now (run .entry))
+    ensures { λ r. ⌜ WholeAs (asked (now (book .entry)) (now (run .entry)))
         (lent (now (table .entry)) (now (slots .entry)) (now (weights .entry))) (now (plan .entry)) room r
         (lent (now (table .exit)) (now (slots .exit)) (now (weights .exit))) (now (plan .exit)) ⌝ }
 {
@@ -222,7 +223,7 @@ pub extern "C" fn rollback_assemble_legs(
     plan: &mut [u8],
     legs: &mut [Leg],
 ) -> Assembly
-    ensures { λ r. ⌜ AssembleAs inStructs (now (book .entry)) (now (run .entry))
+    ensures { λ r. ⌜ AssembleAs inStructs (asked (now (book .entry)) (now (run .entry)))
         (allLent (lent (now (table .entry)) (now (slots .entry)) (now (weights .entry))) (now (plan .entry)) (now (legs .entry))) r
         (allLent (lent (now (table .exit)) (now (slots .exit)) (now (weights .exit))) (now (plan .exit)) (now (legs .exit))) ⌝ }
 {

@@ -31,7 +31,7 @@ bytes-Dear = all-on 256 bytesDear refl
 
 module _ {s : List ℕ} (bytes : Bytes s) {b : Book} (a : AllowedBook b) (same : bytesOf b ≡ s) {l : Lent} {r : Reading} {l′ : Lent} where
   -- what is read is the book of these bytes
-  read-as : Reads s l r l′ → LongEnough (sizes l) → (r ≡ done b) × Filled s l b l′
+  pub read-as : Reads s l r l′ → LongEnough (sizes l) → (r ≡ done b) × Filled s l b l′
   read-as (short n e k) h = absurd (n h)
   read-as (faulty h f e k) _ = absurd (not-refused s bytes f b a same)
   read-as (fine b′ f e) h =

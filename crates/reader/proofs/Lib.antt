@@ -9,3 +9,4 @@ pub mod Ways
 pub mod Exactly
 pub mod Unique
 pub mod Cases
+pub mod Edges

@@ -40,7 +40,7 @@ use Rattle.book.proofs.Scanning.{length-frame, small-records}
 use Rattle.book.proofs.Reading.{parse-bytes}
 use Rattle.items.specs.declared.Parts.{Parts}
 use Rattle.items.specs.Items.{ItemStands, heldIn, PartsAt}
-use Rattle.items.proofs.Laws.{allowed, item-is}
+use Rattle.items.proofs.Laws.{allowed, item-is, k-held, r-held}
 use Rattle.items.proofs.Walk.{kind-at, no-kind}
 use Rattle.reader.specs.declared.units.Tally.{Tally}
 use Rattle.reader.specs.Judged.{ScanBounded}
@@ -86,10 +86,9 @@ module _ (s : List ℕ) (at : ℕ) (t : Tally) (h : Within t) where
     unfolding clearFrom
     units-is {b} q =
         let x = item (itemsOf b) (t .count) in
-        let f = c .parts q in
         let e : psi ≡ x .psi = is ∙ ap (λ (y : Item). y .psi) (c .held ∙ item-is q) in
         let l = ltb→lt (x .psi) (2 ^ b .n) (clear↔ (b .n) (x .psi) .1 (allowed q .psi-states)) in
-        rw (f .k-is, f .r-is, e, ← cardinality-ones (b .n) (x .psi) l)
+        rw (k-held c, r-held c, item-is q, e, ← cardinality-ones (b .n) (x .psi) l)
 
     pub adds-item : leAt 2 s (at + 2) ≡ 3 → t .count < 64 → (l : ℕ) → l ≡ larger (t .longest) (p .r)
         → Tallied s at t (record { count = t .count + 1; units = t .units + ones psi * (p .k + p .r); longest = l })
@@ -103,7 +102,7 @@ module _ (s : List ℕ) (at : ℕ) (t : Tally) (h : Within t) where
                     (λ (z : larger (t .longest) (p .r) ≡ p .r). rw z (c .r-byte)) (larger-is (t .longest) (p .r)));
               };
           other = λ f. absurd (f k);
-          item-is = λ _ {b} q. rw (units-is q, e, c .parts q .r-is);
+          item-is = λ _ {b} q. rw (units-is q, e, r-held c, item-is q);
         }
 
 -- ---- the pass

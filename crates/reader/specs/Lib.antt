@@ -6,3 +6,4 @@ pub mod Filling
 pub mod Reads
 pub mod Contract
 pub mod Cases
+pub mod Edges

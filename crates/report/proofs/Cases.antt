@@ -4,9 +4,8 @@ use mathlib.Core.Bool.{true}
 use mathlib.Core.List.{List}
 use Prim.Native.Nat.{ℕ, _≤_}
 use native.Mathlib.Omega.{arith}
-use lib.ListN.{length, take, replicate, length-replicate}
+use lib.ListN.{length, take}
 use lib.Seq.{take-all}
-use Rattle.base.specs.Sizes.{LongEnough}
 use Rattle.base.specs.Tests.{pick}
 use Rattle.base.specs.Compare.{less, same}
 use Rattle.octets.specs.Le.{bytesLe}
@@ -18,16 +17,16 @@ use Rattle.book.specs.Example.{bytesQ}
 use Rattle.book.proofs.Fields.{all-on}
 use Rattle.runs.specs.RunBytes.{masksBytes, runBytes}
 use Rattle.assembly.specs.declared.Assembly.{Assembly}
-use Rattle.assembly.specs.Lent.{inBytes, Room, allSizes}
+use Rattle.assembly.specs.Lent.{inBytes, Room}
 use Rattle.assembly.specs.Assembles.{Left}
 use Rattle.assembly.specs.Cases.{BytesGive, Runs}
 use Rattle.assembly.proofs.Exactly.{even-bytes, assembles}
 use Rattle.assembly.proofs.Cases.{runs}
 use Rattle.show.specs.Show.{decimalIn, decimal, line, linesOf}
-use Rattle.report.specs.Prints.{zeros, Prints}
+use Rattle.report.specs.Prints.{Prints}
 use Rattle.report.specs.Contract.{resultFor}
 use Rattle.report.specs.Example.{Examples}
-use Rattle.report.proofs.Exactly.{Zeroed, zeroed}
+use Rattle.report.proofs.Exactly.{Zeroed, zeros-long, zeroed}
 
 -- the lines of what a case leaves behind
 left-lines : {a : Answer} {room : Room ℕ} {r : Assembly} {room′ : Room ℕ} → Left inBytes a room r room′ → a .commands ≡ length (a .plan-bytes)
@@ -50,15 +49,9 @@ module _ (u : Run) (a : Answer) (gives : BytesGive inBytes bytesQ u a) (short : 
         assembled = assembles even-bytes c;
         lines =
             left-lines
-            (gives .left (assembles even-bytes (subst (λ (s : List ℕ). Zeroed bytesQ s (resultFor bytesQ (runBytes u)) l) run c)) long)
+            (gives .left (assembles even-bytes (subst (λ (s : List ℕ). Zeroed bytesQ s (resultFor bytesQ (runBytes u)) l) run c)) zeros-long)
             counted;
       }
-    where
-      held : (n : ℕ) → n ≤ length {A = ℕ} (replicate n 0)
-      held n = omega (arith, length-replicate {A = ℕ} n 0)
-
-      long : LongEnough (allSizes inBytes zeros)
-      long = (held 256, (held 96, (held 2048, (held 2176, (held 32, tt)))))
 
 pub examples : Examples
 unfolding decimalIn decimal line linesOf pick less same frame bytesLe masksBytes allBelow

@@ -1,3 +1,4 @@
 pub mod Exactly
 pub mod Cases
+pub mod Edges
 pub mod Unique

@@ -5,24 +5,21 @@ use Prim.Native.Nat.{ℕ, _≤_}
 use lib.ListN.{length, take}
 use lib.Seq.{sets}
 use Rattle.base.specs.Lists.{Bytes}
-use Rattle.reversal.specs.Answers.{Answer}
+use Rattle.assembly.specs.Asked.{asked}
 use Rattle.assembly.specs.declared.Assembly.{Assembly}
 use Rattle.assembly.specs.Lent.{inBytes}
 use Rattle.assembly.specs.Assembles.{refusal, resultOf}
-use Rattle.assembly.specs.Contract.{assembleBy, roomOf}
+use Rattle.assembly.specs.Contract.{planBy, roomOf}
 use Rattle.show.specs.Show.{linesOf, planned}
 use Rattle.report.specs.Prints.{zeros}
 
--- assembling, of the bytes that are judged and zeroed buffers
-abbrev pub judgedBy : {A : Type 0} → List ℕ → List ℕ → (ℕ → ℕ → A) → (Answer → A) → A
-judgedBy book run = assembleBy inBytes (take 31179 book) (take 302 run) zeros
-
+-- what assembling answers for the bytes that are judged
 abbrev pub resultFor : List ℕ → List ℕ → Assembly
-resultFor book run = judgedBy book run refusal resultOf
+resultFor book run = planBy (asked (take 31179 book) (take 302 run)) refusal resultOf
 
 -- the plan buffer at exit
 abbrev pub planFor : List ℕ → List ℕ → List ℕ
-planFor book run = judgedBy book run (λ code place. zeros .room) (roomOf inBytes (zeros .room)) .plan
+planFor book run = planBy (asked (take 31179 book) (take 302 run)) (λ code place. zeros .room) (roomOf inBytes (zeros .room)) .plan
 
 abbrev pub linesFor : Assembly → List ℕ → List ℕ
 linesFor r plan = linesOf (r .code) (r .place) (r .commands) (r .legs) (planned (r .commands) plan)

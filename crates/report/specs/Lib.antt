@@ -1,3 +1,4 @@
 pub mod Prints
 pub mod Contract
 pub mod Example
+pub mod Edges

@@ -5,6 +5,7 @@ use Prim.Native.Nat.{ℕ, _≤_}
 use lib.ListN.{length, take, replicate}
 use lib.Seq.{sets}
 use Rattle.book.specs.Lent.{lent}
+use Rattle.assembly.specs.Asked.{asked}
 use Rattle.assembly.specs.declared.Assembly.{Assembly}
 use Rattle.assembly.specs.Lent.{inBytes, AllLent, allLent}
 use Rattle.assembly.specs.Assembles.{Assembles}
@@ -20,7 +21,7 @@ zeros = allLent (lent (replicate 2048 0) (replicate 2176 0) (replicate 32 0)) (r
 pub record Prints (book run text : List ℕ) : Type 0 where
   pub result : Assembly
   pub left : AllLent ℕ
-  pub assembled : Assembles inBytes (take 31179 book) (take 302 run) zeros result left
+  pub assembled : Assembles inBytes (asked (take 31179 book) (take 302 run)) zeros result left
   pub lines : text ≡ linesOf (result .code) (result .place) (result .commands) (result .legs) (take (result .commands) (left .room .plan))
 
 -- what `report` leaves in the lent row `out`, which is `out′` at exit, and answers: the text, and its length

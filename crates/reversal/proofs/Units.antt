@@ -18,7 +18,7 @@ use Rattle.base.proofs.Tests.{T-true, true-T, both-l, both-r, imp-use, imp-of}
 use Rattle.base.proofs.Bounded.{all-at, all-of}
 use Rattle.base.proofs.Parts.{each-map}
 use Rattle.base.proofs.Lowest.{Tells, fails, passes, lowest-wrong, one-lowest}
-use Rattle.base.proofs.Masks.{member-in, in-member, in-zero}
+use Rattle.base.proofs.Masks.{member-in, in-member, in-zero, pick-in, union-in}
 use Rattle.base.proofs.Present.{present-is, present-split, cardinality-le}
 use Rattle.reversal.specs.Device.{Device, Proper}
 use Rattle.reversal.specs.Reversal.{Item, AllowedItem}
@@ -27,7 +27,7 @@ use Rattle.reversal.specs.Units.{startUnits, itemUnits, sumUnits, ComesB
 use Rattle.reversal.specs.Computed.Sets.{after, able, reach, runsBack, ends, startOk, reverses, effective, accepts}
 use Rattle.reversal.specs.Computed.Units.{backUnits, startMade, startsMade, itemMade, itemsMade}
 use Rattle.reversal.proofs.Paths.{led→leads, leads→led}
-use Rattle.reversal.proofs.Reversals.{after-in, able-at, able-of, reach-in, in-reach, reach-states, ends-in, in-ends, ends-states, start↔}
+use Rattle.reversal.proofs.Reversals.{able-at, able-of, reach-in, in-reach, reach-states, ends-in, in-ends, ends-states, start↔}
 
 -- one of two numbers, of which neither is above
 pick-most : (b : Bool) (x y most : ℕ) → x ≤ most → y ≤ most → pick b x y ≤ most
@@ -37,7 +37,7 @@ pick-most false x y most h k = k
 
 -- ---- no more than 02's sum
 module _ (d : Device) where
-  back-most : (cs : List ℕ) (w : ℕ) → backUnits d w cs ≤ length cs
+  pub back-most : (cs : List ℕ) (w : ℕ) → backUnits d w cs ≤ length cs
   unfolding backUnits
   back-most [] w = omega arith
   back-most (c ∷ cs) w = omega (arith, pick-most (able d c w) (backUnits d (after d c w) cs) 0 (length cs) (back-most cs (after d c w)) (omega arith))
@@ -68,14 +68,24 @@ module _ (d : Device) where
   items-most (x ∷ xs) = omega (arith, item-most x, pick-most (accepts d x) (itemsMade d xs) 0 (sumUnits (d .n) xs) (items-most xs) (omega arith))
 
 -- ---- all of them
-module _ (d : Device) (proper : Proper d) where
+module _ (d : Device) where
   -- a command is applied to an empty set too
+  able-empty : (c w : ℕ) → ((s : ℕ) → In w s → ⊥) → T (able d c w)
+  unfolding able
+  able-empty c w f =
+      all-of (λ s. imp (member w s) (not (eqb (d .outcomes s c) 0))) (d .n) (λ s l.
+      imp-of (member w s) (not (eqb (d .outcomes s c) 0)) (λ q. absurd (f s (member-in w s q))))
+
+  after-empty : (c w : ℕ) → ((s : ℕ) → In w s → ⊥) → (t : ℕ) → In (after d c w) t → ⊥
+  unfolding after
+  after-empty c w f t h =
+      let (s, l, q) = union-in (λ s. pick (member w s) (d .outcomes s c) 0) (d .n) t h in
+      f s (member-in w s (pick-in (member w s) (d .outcomes s c) t q .0))
+
   back-empty : (cs : List ℕ) (w : ℕ) → ((t : ℕ) → In w t → ⊥) → backUnits d w cs ≡ length cs
   unfolding backUnits pick
   back-empty [] w f = refl
-  back-empty (c ∷ cs) w f =
-      rw (T-true (able d c w) (able-of d proper c w (λ s h. absurd (f s h))))
-      (ap suc (back-empty cs (after d c w) (λ t h. let (s, a, g) = after-in d proper c w t h in f s a)))
+  back-empty (c ∷ cs) w f = rw (T-true (able d c w) (able-empty c w f)) (ap suc (back-empty cs (after d c w) (after-empty c w f)))
 
   back-all : (cs : List ℕ) (w S : ℕ) → T (runsBack d w cs S) → backUnits d w cs ≡ length cs
   unfolding backUnits runsBack pick
@@ -229,14 +239,14 @@ module _ (d : Device) (proper : Proper d) (x : Item) (starts : NoBitFrom (d .n) 
       let l = some-fails f in
       let (t, e) = fails-there (member (x .psi) S) (startOk d x S) (fails passesAt (d .n) l) in
       let (rest, split) = present-split (d .n) (x .psi) S l (member-in (x .psi) S t) in
-      let pass = starts-pass d proper x S (λ s b h.
+      let pass = starts-pass d x S (λ s b h.
       imp-use (member (x .psi) s) (startOk d x s) (true-T _ (passes passesAt (d .n) s b (omega arith))) (in-member (x .psi) s h)) in
       record {
         start = S;
         failing = lowest-wrong passesAt (d .n) tells l;
         last = startMade d x S;
         stops = units-of-failing S l;
-        total = ap (startsMade d x) split ∙ starts-first d proper x (present S (x .psi)) S rest pass e;
+        total = ap (startsMade d x) split ∙ starts-first d x (present S (x .psi)) S rest pass e;
       }
 
 -- ---- 02 leaves one number

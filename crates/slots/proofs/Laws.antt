@@ -18,7 +18,7 @@ use Rattle.book.specs.Slots.{itemAt}
 use Rattle.book.proofs.Slots.{length-padded}
 use Rattle.items.specs.declared.Parts.{Parts}
 use Rattle.items.specs.Items.{heldIn, ItemStands, PartsAt}
-use Rattle.items.proofs.Laws.{allowed, item-is}
+use Rattle.items.proofs.Laws.{allowed, item-is, k-held, r-held}
 use Rattle.slots.specs.Filled.{headFrom, tailFrom, SlotFilled}
 use Rattle.slots.specs.Stored.{partsOf, HasCounts}
 
@@ -111,8 +111,9 @@ module _ {s : List ℕ} {at : ℕ} {p : Parts} (o : PartsAt s at p) (slots : Lis
         past = o .past;
         slot =
             λ h.
-            let f = o .parts h in
-            let x = allowed h in absurd (n (omega (arith, f .k-is, x .most)) (omega (arith, f .r-is, x .reverse-most)));
+            let x = allowed h in
+            let k = k-held o ∙ ap (λ (y : Item). length (y .forward)) (item-is h) in
+            let r = r-held o ∙ ap (λ (y : Item). length (y .reverse)) (item-is h) in absurd (n (omega (arith, x .most)) (omega (arith, x .reverse-most)));
         next = o .next;
       }
 
@@ -129,9 +130,18 @@ module _ {s : List ℕ} {at : ℕ} {p : Parts} (o : PartsAt s at p) (slots : Lis
     slot-from : {b : Book} {i : ℕ} → ItemStands s b i at → headFrom s (p .k) (p .r) (p .forward) ++ tailFrom s (p .r) (p .reverse) phi psi ≡ slotOf (item (itemsOf b) i)
     unfolding headFrom tailFrom
     slot-from h =
-        let f = o .parts h in
         let held = o .held ∙ item-is h in
-        rw (f .forward-is, f .reverse-is, f .k-is, f .r-is, is, is′, ap (λ (x : Item). x .phi) held, ap (λ (x : Item). x .psi) held)
+        rw (
+          ap (λ (x : Item). x .forward) held,
+          ap (λ (x : Item). x .reverse) held,
+          k-held o,
+          r-held o,
+          item-is h,
+          is,
+          is′,
+          ap (λ (x : Item). x .phi) held,
+          ap (λ (x : Item). x .psi) held,
+        )
 
     pub item-filled : SlotFilled s at slots a slots′ (p .next)
     item-filled = record { past = o .past; slot = λ h. stored ∙ ap (sets slots (34 * a)) (slot-from h); next = o .next }

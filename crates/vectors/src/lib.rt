@@ -1,4 +1,4 @@
-// What the test programs that run vector files share: parts of a file, lengths, and rows of numbers on standard output.
+// What the test programs that run vector files share: a file of cases, parts of a file, lengths, and rows of numbers on standard output.
 use libc::STDOUT_FILENO;
 ghost use mathlib.Core.Path.{_≡_};
 ghost use Prim.Native.Nat.{_*_, _<_, _≤_, min};
@@ -21,12 +21,75 @@ pub fn part(s: &[u8], at: usize, len: usize) -> &[u8]
 }
 
 // The file's next bytes, as many as asked for or as there is room. The answer is their number.
-pub fn read_part(file: i32, size: u16, buf: &mut [u8]) -> usize
+fn read_part(file: i32, size: u16, buf: &mut [u8]) -> usize
     ensures { λ r. ⌜ Counts r (now (buf .exit)) ⌝ }
 {
     let wanted = io::count(size as isize, buf);
     let got = io::read_full(file, &mut buf[..wanted]);
     io::count(got as isize, buf)
+}
+
+// A file that is open for reading, and how many cases of it are run.
+pub struct Cases {
+    pub file: i32,
+    pub count: u64,
+}
+
+// Opens a file of so many cases. None are run where it can't be read, which is said on standard error.
+pub fn open(path: &[u8], count: u64) -> Cases
+    ensures { λ r. ⌜ r .count ≤ count ⌝ }
+{
+    let file = os::open_read(path);
+    if file < 0 {
+        os::fail(path);
+        return Cases {
+            file: file,
+            count: 0,
+        };
+    }
+    Cases {
+        file: file,
+        count: count,
+    }
+}
+
+// The number in the last two bytes.
+fn last_two(head: &[u8]) -> u16 {
+    let len = head.len();
+    if len < 2 {
+        return 0;
+    }
+    octets::u16_at(head, len - 2) as u16
+}
+
+// The file's next case: its head, whose last two bytes are the book's length, and the book. The answer is the number of the book's bytes.
+pub fn next_book(file: i32, head: &mut [u8], book: &mut [u8]) -> usize
+    ensures { λ r. ⌜ Counts r (now (book .exit)) ⌝ }
+{
+    io::read_full(file, head);
+    read_part(file, last_two(head), book)
+}
+
+// How many bytes a case's book and run have.
+pub struct Sizes {
+    pub book: usize,
+    pub run: usize,
+}
+
+// The file's next case: its head, whose last two bytes are the book's length; the run's, two bytes; the book; the run.
+pub fn next_case(file: i32, head: &mut [u8], book: &mut [u8], run: &mut [u8]) -> Sizes
+    ensures { λ r. ⌜ Counts (r .book) (now (book .exit)) ⌝ }
+    ensures { λ r. ⌜ Counts (r .run) (now (run .exit)) ⌝ }
+{
+    let mut size = [0u8; 2];
+    io::read_full(file, head);
+    io::read_full(file, &mut size);
+    let book_size = read_part(file, last_two(head), book);
+    let run_size = read_part(file, octets::u16_at(&size, 0) as u16, run);
+    Sizes {
+        book: book_size,
+        run: run_size,
+    }
 }
 
 // How much of a buffer that is five longer than stated is lent in a case of a kind: all of it where that is `longer`, one less than stated where it

@@ -80,17 +80,17 @@ fn run(case: &[u8]) {
     }
 }
 
-fn main() {
-    let path = b"writes.bin";
-    let file = os::open_read(path);
-    if file < 0 {
-        os::fail(path);
-        return;
-    }
+// The file's next case.
+fn next_case(file: i32) {
     let mut case = [0u8; 575];
-    for _ in 0..500u64 {
-        io::read_full(file, &mut case);
-        run(&case);
+    io::read_full(file, &mut case);
+    run(&case);
+}
+
+fn main() {
+    let cases = vectors::open(b"writes.bin", 500);
+    for _ in 0..cases.count {
+        next_case(cases.file);
     }
-    libc::close(file);
+    libc::close(cases.file);
 }

@@ -24,7 +24,7 @@ use Rattle.writer.specs.Writes.{Refuses, refusal, written}
 use Rattle.writer.specs.Cases.{Spoilt}
 use Rattle.writer.proofs.Exactly.{judged, Judged, refused-is, fine-is}
 
-refused-by : (n m items : ℕ) (l : Lent) (out : List ℕ) (code place : ℕ) → allBelow 256 (l .slots) ≡ true
+pub refused-by : (n m items : ℕ) (l : Lent) (out : List ℕ) (code place : ℕ) → allBelow 256 (l .slots) ≡ true
     → checked n m items l out refusal (written 0) ≡ refusal code place → 0 < code → Refuses n m items l out code place
 refused-by n m items l out code place b e q = go (judged n m items l out h)
   where

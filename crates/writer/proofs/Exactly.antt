@@ -129,7 +129,7 @@ module _ (n m items : ℕ) (l : Lent) (out : List ℕ) (h : Bytes (l .slots)) wh
       omega (arith, long .1 .1 .1 .0, length-book (bookFrom n m items l) (written-allowed n m items l w))
 
 -- ---- both ways
-read-long : (l : Lent) (out : List ℕ) → LongEnough (buffers l out) → LongEnough (sizes l)
+pub read-long : (l : Lent) (out : List ℕ) → LongEnough (buffers l out) → LongEnough (sizes l)
 read-long l out long = (long .0, (long .1 .0, (long .1 .1 .0, tt)))
 
 module _ {n m items : ℕ} {l : Lent} {out : List ℕ} where

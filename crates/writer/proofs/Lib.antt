@@ -5,3 +5,4 @@ pub mod Chain
 pub mod Exactly
 pub mod RoundTrips
 pub mod Cases
+pub mod Edges

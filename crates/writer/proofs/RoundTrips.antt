@@ -23,7 +23,7 @@ book-bytes {out′ = out′} w = ap (λ (x : Writing). take (x .length) out′) 
 
 module _ {n m items : ℕ} {l : Lent} {out : List ℕ} where
   -- every refusal has a code
-  some-code : {code place : ℕ} → Refuses n m items l out code place → 0 < code
+  pub some-code : {code place : ℕ} → Refuses n m items l out code place → 0 < code
   some-code (short h) = omega arith
   some-code (device g h) = omega arith
   some-code (count g d h) = omega arith

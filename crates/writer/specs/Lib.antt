@@ -3,3 +3,4 @@ pub mod Records
 pub mod Lowest
 pub mod Contract
 pub mod Cases
+pub mod Edges

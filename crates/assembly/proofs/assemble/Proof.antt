@@ -1,12 +1,10 @@
 -- `assemble` meets its contract: what checking refuses, and what `planned` answers. Assumes nothing.
-use mathlib.Core.Path.{_∙_}
 use Prim.Native.Nat.{_<_}
 use native.Mathlib.Omega.{arith}
 use borrow.Author.Needs.{needs}
 use Rattle.base.specs.Lists.{Bytes}
 use Rattle.base.specs.Sizes.{LongEnough}
 use Rattle.base.proofs.Lists.{each-of}
-use Rattle.base.proofs.Sizes.{short-here, short-past}
 use Rattle.assembly.specs.Lent.{inBytes, lentRoom, roomSizes}
 use Rattle.assembly.proofs.WaysOfAssemble as ways
 use Rattle.assembly.proofs.Lends.{table-lends}
@@ -40,18 +38,13 @@ refused-requires : tie.Need-refused-requires
 refused-requires c κs = search needs
 
 returns : tie.Need-returns
-returns c =
-    let s = c .before .before in
-    ways.short-refused (book-bytes s) (run-bytes s) (short-here _ _ (c .before .if1 .taken)) (c .refused .ensures)
+returns c = ways.short-refused (book-bytes (c .before .before)) (λ h. omega (arith, h .0, c .before .if1 .taken)) (c .refused .ensures)
 
 refused-requires-2 : tie.Need-refused-requires-2
 refused-requires-2 c κs = search needs
 
 returns-2 : tie.Need-returns-2
-returns-2 c =
-    let s = c .before .before .before in
-    ways.short-refused (book-bytes s) (run-bytes s) (short-past _ _ (c .before .before .if1 .left) ∙ short-here _ _ (c .before .if2 .taken))
-    (c .refused2 .ensures)
+returns-2 c = ways.short-refused (book-bytes (c .before .before .before)) (λ h. omega (arith, h .1 .0, c .before .if2 .taken)) (c .refused2 .ensures)
 
 check-requires : tie.Need-check-requires
 check-requires c κs = search needs
@@ -71,13 +64,12 @@ same-length-3 c = search needs
 returns-3 : tie.Need-returns-3
 returns-3 c =
     let k = checked (c .before .before) in
-    ways.not-accepted (record { check = k .check .ensures; run-bytes = run-bytes (entry k); long = long k }) (c .before .if3 .taken) (c .refused3 .ensures)
+    ways.lent-refused (k .check .ensures) (long k) (run-bytes (entry k)) (c .before .if3 .taken) (c .refused3 .ensures)
 
 planned-requires : tie.Need-planned-requires
 planned-requires c κs =
     let a = accepted c in
-    let k = checked (a .before) in
-    table-lends (k .check .ensures) (a .if3 .left) (long k)
+    table-lends (checked (a .before) .check .ensures) (a .if3 .left)
 
 same-length-4 : tie.Need-same-length-4
 same-length-4 c = search needs
@@ -97,7 +89,9 @@ same-length-8 c = search needs
 returns-4 : tie.Need-returns-4
 returns-4 c =
     let p = c .before .before .before .before in
-    p .planned .ensures _ _ (checked (accepted (p .before) .before) .check .ensures)
+    let a = accepted (p .before) in
+    let k = checked (a .before) in
+    ways.lent-planned (k .check .ensures) (long k) (a .if3 .left) (p .planned .ensures)
 
 pub assemble-spec : {M : Type 1} → statement M
 assemble-spec =

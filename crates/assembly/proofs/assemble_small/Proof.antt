@@ -1,18 +1,15 @@
--- `assemble_small` meets its contract: what checking refuses, and what `planned` answers, in every table, slots and weights that are long enough.
--- Assumes nothing.
-use mathlib.Core.Path.{_∙_}
+-- `assemble_small` meets its contract: what checking refuses, and what `planned` answers. Assumes nothing.
 use Prim.Native.Nat.{_<_}
 use native.Mathlib.Omega.{arith}
 use borrow.Author.Needs.{needs}
 use Rattle.base.specs.Lists.{Bytes}
 use Rattle.base.specs.Sizes.{LongEnough}
 use Rattle.base.proofs.Lists.{each-of}
-use Rattle.base.proofs.Sizes.{short-here, short-past}
 use Rattle.assembly.specs.Lent.{lentRoom}
 use Rattle.assembly.specs.Small.{smallSizes}
 use Rattle.assembly.proofs.WaysOfAssemble as ways
 use Rattle.assembly.proofs.Lends.{small-lends}
-use Rattle.assembly.proofs.Small.{small-short, small-alike}
+use Rattle.assembly.proofs.Small.{small-short, small-long}
 use Rattle.assembly.proofs.assemble_small.Statement.{statement}
 use Rattle.assembly.proofs.assemble_small.Tie as tie
 
@@ -47,24 +44,19 @@ refused-requires : tie.Need-refused-requires
 refused-requires c κs = search needs
 
 returns : tie.Need-returns
-returns c = small-short (book-bytes (c .before .before)) (short-here _ _ (c .before .if1 .taken)) (c .refused .ensures)
+returns c = small-short (book-bytes (c .before .before)) (λ h. omega (arith, h .0, c .before .if1 .taken)) (c .refused .ensures)
 
 refused-requires-2 : tie.Need-refused-requires-2
 refused-requires-2 c κs = search needs
 
 returns-2 : tie.Need-returns-2
-returns-2 c =
-    small-short (book-bytes (c .before .before .before)) (short-past _ _ (c .before .before .if1 .left) ∙ short-here _ _ (c .before .if2 .taken))
-    (c .refused2 .ensures)
+returns-2 c = small-short (book-bytes (c .before .before .before)) (λ h. omega (arith, h .1 .0, c .before .if2 .taken)) (c .refused2 .ensures)
 
 refused-requires-3 : tie.Need-refused-requires-3
 refused-requires-3 c κs = search needs
 
 returns-3 : tie.Need-returns-3
-returns-3 c =
-    small-short (book-bytes (c .before .before .before .before))
-    (short-past _ _ (c .before .before .before .if1 .left) ∙ (short-past _ _ (c .before .before .if2 .left) ∙ short-here _ _ (c .before .if3 .taken)))
-    (c .refused3 .ensures)
+returns-3 c = small-short (book-bytes (c .before .before .before .before)) (λ h. omega (arith, h .1 .1 .0, c .before .if3 .taken)) (c .refused3 .ensures)
 
 check-small-requires : tie.Need-check-small-requires
 check-small-requires c κs = search needs
@@ -78,11 +70,8 @@ same-length c = search needs
 returns-4 : tie.Need-returns-4
 returns-4 c =
     let k = checked (c .before .before) in
-    small-alike (book-bytes (entry k)) (long k) (k .check-small .ensures .rest)
-    (λ l enough.
-    ways.not-accepted
-    (record { check = k .check-small .ensures .alike (long k .1 .1 .0) l enough; run-bytes = run-bytes (entry k); long = (long k .0, (long k .1 .0, tt)) })
-    (c .before .if4 .taken) (c .refused4 .ensures))
+    let f = k .check-small .ensures in
+    small-long (long k) (f .rest) (ways.not-accepted (f .checking (long k .1 .1 .0)) (run-bytes (entry k)) (c .before .if4 .taken) (c .refused4 .ensures))
 
 slice-aggregate-fill-weights : tie.Need-slice-aggregate-fill-weights
 slice-aggregate-fill-weights c = search needs
@@ -98,7 +87,7 @@ planned-requires c κs =
     let w = weighed c in
     let a = accepted w in
     let k = checked (a .before) in
-    small-lends (k .check-small .ensures) (long k .1 .1 .0) (a .if4 .left) (w .fill-weights .ensures) (long k .0, (long k .1 .0, tt))
+    small-lends (k .check-small .ensures) (long k .1 .1 .0) (a .if4 .left) (w .fill-weights .ensures)
 
 same-length-2 : tie.Need-same-length-2
 same-length-2 c = search needs
@@ -113,8 +102,7 @@ returns-5 : tie.Need-returns-5
 returns-5 c =
     let p = c .before .before .before .before in
     let k = checked (accepted (weighed (p .before)) .before) in
-    small-alike (book-bytes (entry k)) (long k) (k .check-small .ensures .rest)
-    (λ l enough. p .planned .ensures l _ (k .check-small .ensures .alike (long k .1 .1 .0) l enough))
+    small-long (long k) (k .check-small .ensures .rest) (p .planned .ensures)
 
 pub assemble-small-spec : {M : Type 1} → statement M
 assemble-small-spec =

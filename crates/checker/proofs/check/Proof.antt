@@ -1,6 +1,6 @@
 -- `check` meets its contract. Assumes nothing.
 use borrow.Author.Needs.{needs}
-use Rattle.checker.proofs.Ways.{passed-on, asked, device, judged}
+use Rattle.checker.proofs.Ways.{passed-on, asked, found, judged}
 use Rattle.checker.proofs.check.Statement.{statement}
 use Rattle.checker.proofs.check.Tie as tie
 
@@ -24,10 +24,12 @@ same-length-3 : tie.Need-same-length-3
 same-length-3 c = search needs
 
 returns : tie.Need-returns
-returns c = passed-on (given (c .before .before) .read .ensures) (c .before .if1 .taken) _ (c .with-units .ensures)
+returns c = passed-on (given (c .before .before) .read .ensures) (c .before .if1 .taken) (c .with-units .ensures)
 
 judge-items-requires : tie.Need-judge-items-requires
-judge-items-requires c κs = asked (given (c .before .before) .read .ensures) (c .before .if1 .left)
+judge-items-requires c κs =
+    let z = c .before .if1 .left in
+    asked (found (given (c .before .before) .read .ensures) z) z
 
 same-length-4 : tie.Need-same-length-4
 same-length-4 c = search needs
@@ -39,10 +41,7 @@ same-length-6 : tie.Need-same-length-6
 same-length-6 c = search needs
 
 returns-2 : tie.Need-returns-2
-returns-2 c =
-    let e = given (c .before .before .before) .read .ensures in
-    let z = c .before .before .if1 .left in
-    judged e z (device e z) (c .judge-items .ensures)
+returns-2 c = judged (given (c .before .before .before) .read .ensures) (c .before .before .if1 .left) (c .judge-items .ensures)
 
 pub check-spec : {M : Type 1} → statement M
 check-spec =

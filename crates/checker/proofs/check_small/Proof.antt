@@ -1,6 +1,6 @@
 -- `check_small` meets its contract. Assumes nothing.
 use borrow.Author.Needs.{needs}
-use Rattle.checker.proofs.Ways.{small-refused, small-asked, small-judged}
+use Rattle.checker.proofs.Ways.{asked, small-refused, small-judged}
 use Rattle.checker.proofs.check_small.Statement.{statement}
 use Rattle.checker.proofs.check_small.Tie as tie
 
@@ -19,7 +19,7 @@ index-requires c κs = search needs
 judge-items-requires : tie.Need-judge-items-requires
 judge-items-requires c κs =
     let f = c .before .before .before .before .before in
-    small-asked (f .before .before .reading-of .ensures) (f .if1 .left)
+    asked (f .before .before .reading-of .ensures) (f .if1 .left)
 
 same-length : tie.Need-same-length
 same-length c = search needs

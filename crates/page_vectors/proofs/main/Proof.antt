@@ -5,19 +5,16 @@ use Rattle.page_vectors.proofs.main.Statement.{statement}
 use Rattle.page_vectors.proofs.main.Tie as tie
 
 abbrev Inv-loop : tie.InvT-loop
-Inv-loop file counter₀ counter = counter ≤ 700
+Inv-loop cases counter₀ end counter = counter ≤ end
 
 abbrev μ-loop : tie.MeasureT-loop
-μ-loop file counter₀ counter = 700 - counter
+μ-loop cases counter₀ end counter = end - counter
 
-open-read-requires : tie.Need-open-read-requires Inv-loop μ-loop
-open-read-requires c κs = search needs
+slice-aggregate-open : tie.Need-slice-aggregate-open Inv-loop μ-loop
+slice-aggregate-open c = search needs
 
-fail-requires : tie.Need-fail-requires Inv-loop μ-loop
-fail-requires c κs = search needs
-
-returns : tie.Need-returns Inv-loop μ-loop
-returns c = search needs
+open-requires : tie.Need-open-requires Inv-loop μ-loop
+open-requires c κs = search needs
 
 loop-holds : tie.Need-loop-holds Inv-loop μ-loop
 loop-holds c = search needs
@@ -37,8 +34,8 @@ loop-again c = search needs
 close-requires : tie.Need-close-requires Inv-loop μ-loop
 close-requires c κs = search needs
 
-returns-2 : tie.Need-returns-2 Inv-loop μ-loop
-returns-2 c = search needs
+returns : tie.Need-returns Inv-loop μ-loop
+returns c = search needs
 
 pub main-spec : {M : Type 1} → statement M
 main-spec =
@@ -46,13 +43,12 @@ main-spec =
     (tie.spec
     Inv-loop
     μ-loop
-    open-read-requires
-    fail-requires
-    returns
+    slice-aggregate-open
+    open-requires
     loop-holds
     next-case-requires
     add-counter
     loop-less
     loop-again
     close-requires
-    returns-2)
+    returns)

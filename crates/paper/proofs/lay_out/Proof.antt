@@ -2,7 +2,7 @@
 use Prim.Native.Nat.{_<_}
 use native.Mathlib.Omega.{arith}
 use Rattle.base.proofs.Lists.{each-of}
-use Rattle.assembly.proofs.Exactly.{even-bytes, legs-few}
+use Rattle.assembly.proofs.Exactly.{legs-few}
 use Rattle.paper.proofs.Ways.{page-short, page-long}
 use borrow.Author.Needs.{needs}
 use Rattle.paper.proofs.lay_out.Statement.{statement}
@@ -33,7 +33,7 @@ assemble-requires c κs = search needs
 put-lines-requires : tie.Need-put-lines-requires
 put-lines-requires c κs =
     let m = assembled c in
-    (legs-few even-bytes (m .assemble .ensures), tested m .if1 .left)
+    (legs-few (m .assemble .ensures), tested m .if1 .left)
 
 same-length : tie.Need-same-length
 same-length c = search needs

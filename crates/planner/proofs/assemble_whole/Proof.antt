@@ -12,21 +12,18 @@ use Rattle.planner.proofs.assemble_whole.Lts as lts
 use Rattle.assembly.proofs.assemble.Reads as assemble-reads
 use Rattle.assembly.proofs.refused.Reads as refused-reads
 
--- what is lent as the book and as the run is bytes
+-- what is lent as the book is bytes
 abbrev start : tie.After-slice-known4 → tie.Start
 start c = c .before .before .before .before .before .before
 
 book-bytes : (c : tie.After-slice-known4) → Bytes (start c .args .book .now)
 book-bytes c = each-of (λ x. x < 256) (start c .args .book .now) 0 (λ i h. omega (arith, c .before .before .before .before .before .shared-slice-known .given i))
 
-run-bytes : (c : tie.After-slice-known4) → Bytes (start c .args .run .now)
-run-bytes c = each-of (λ x. x < 256) (start c .args .run .now) 0 (λ i h. omega (arith, c .before .before .before .before .shared-slice-known2 .given i))
-
 refused-requires : tie.Need-refused-requires
 refused-requires c κs = search needs
 
 returns : tie.Need-returns
-returns c = let s = c .before .before in whole-short _ (book-bytes s) (run-bytes s) (c .before .if1 .taken) (c .refused .ensures)
+returns c = let s = c .before .before in whole-short _ (book-bytes s) (c .before .if1 .taken) (c .refused .ensures)
 
 slice-aggregate-assemble : tie.Need-slice-aggregate-assemble
 slice-aggregate-assemble c = search needs

@@ -39,6 +39,7 @@ use denote.Triple.Table.{entered, cited}
 use denote.Triple.Walked.{says, Stays, gave-slice, stay-dropped, walkOf, AllGo, goes-gave-slice, goes-dropped, Walks, ends-at, walked, walk-meets}
 use denote.Triple.Clauses.{ensured, lasts}
 use denote.Exit.{yes}
+use Rattle.assembly.specs.Asked.{asked}
 use Rattle.assembly.specs.declared.Assembly.{Assembly}
 use Rattle.assembly.proofs.Assembly as R
 use Rattle.assembly.proofs.Assembly.Laws as R′
@@ -142,7 +143,7 @@ module _ {M : Type 1} (𝓤 : URA M) (H : Heap 𝓤) (A : Atoms 𝓤) (W : Given
   Post = walkOf 𝓤 H A assemble-legs.ended stayed (assemble-legs.clauses 𝓤 H A at-mem run) .post
       (((κ₀, (κ₁, (κ₂, (κ₃, (κ₄, (κ₅, (κ₆, tt))))))), (q₀, (q₁, (q₂, (q₃, (q₄, (q₅, (q₆, tt))))))), tt, a, vals), tt)
 
-  exits : (r : Assembly) (v : Val) (t s w p : List ℕ) (l : List Leg) → AssembleAs inStructs (now bk) (now rn)
+  exits : (r : Assembly) (v : Val) (t s w p : List ℕ) (l : List Leg) → AssembleAs inStructs (asked (now bk) (now rn))
       (allLent (lent (now tb) (now sl) (now wt)) (now pl) (now lg)) r (allLent (lent t s w) p l)
       → length t ≡ length (now tb) → length s ≡ length (now sl) → length w ≡ length (now wt) → length p ≡ length (now pl) → length l ≡ len
       → ent 𝓤 (⋆ 𝓤 H A (‵ (R.the-row .own r (v ∷ [])) ∷ (‵ (flft κ₆ q₆) ⊛ ‵ ftrue) ∷ ‵ (finally T.the-row (lg .name) l) ∷
@@ -195,7 +196,7 @@ module _ {M : Type 1} (𝓤 : URA M) (H : Heap 𝓤) (A : Atoms 𝓤) (W : Given
   Last6 = Unit {0} × (Unit {0} × (List ℕ × (List ℕ × (List ℕ × (List ℕ × (Unit {0} × Unit {0}))))))
 
   abbrev Said : Whole → Last6 → Type 0
-  Said w zs = WholeAs (now bk) (now rn) (lent (now tb) (now sl) (now wt)) (now pl) len w
+  Said w zs = WholeAs (asked (now bk) (now rn)) (lent (now tb) (now sl) (now wt)) (now pl) len w
       (lent (zs .1 .1 .0) (zs .1 .1 .1 .0) (zs .1 .1 .1 .1 .0)) (zs .1 .1 .1 .1 .1 .0)
 
   module _ (C : Calls 𝓤 H) (Λ : Loops 𝓤 H) (fm : FmC 𝓤 H (W .laws) C) (known-all : Triple 𝓤 (C #planner·assemble-whole) (All 𝓤 H A at-mem run))

@@ -1,15 +1,14 @@
 -- `read` meets its contract. Assumes nothing.
-use mathlib.Core.Path.{refl, sym, _∙_}
+use mathlib.Core.Path.{sym, _∙_}
 use Prim.Native.Nat.{_<_}
 use native.Mathlib.Omega.{arith}
 use Rattle.base.specs.Lists.{Bytes}
 use Rattle.base.specs.Sizes.{LongEnough}
 use Rattle.base.proofs.Lists.{each-of}
-use Rattle.base.proofs.Sizes.{short-here, short-past}
 use Rattle.book.specs.Lent.{Lent, lent, sizes}
 use Rattle.book.proofs.Lent.{same-buffers}
-use Rattle.reader.proofs.Ways.{answered, as-short, read-as, left-alone, when-fine}
-use Rattle.reader.proofs.Exactly.{book-read}
+use Rattle.reader.proofs.Ways.{answered, as-short, as-long, when-faulty, when-fine}
+use Rattle.reader.proofs.Exactly.{book-found, fault-found}
 use borrow.Author.Needs.{needs}
 use Rattle.reader.proofs.read.Statement.{statement}
 use Rattle.reader.proofs.read.Tie as tie
@@ -42,24 +41,21 @@ refused-requires : tie.Need-refused-requires
 refused-requires c κs = search needs
 
 returns : tie.Need-returns
-returns c = as-short _ _ (bytes (c .before .before)) (short-here _ _ (c .before .if1 .taken)) _ (c .refused .ensures)
+returns c = as-short (bytes (c .before .before)) (λ h. omega (arith, h .0, c .before .if1 .taken)) (c .refused .ensures)
 
 refused-requires-2 : tie.Need-refused-requires-2
 refused-requires-2 c κs = search needs
 
 returns-2 : tie.Need-returns-2
 returns-2 c =
-    as-short _ _ (bytes (c .before .before .before))
-    (short-past _ _ (c .before .before .if1 .left) ∙ short-here _ _ (c .before .if2 .taken)) _ (c .refused2 .ensures)
+    as-short (bytes (c .before .before .before)) (λ h. omega (arith, h .1 .0, c .before .if2 .taken)) (c .refused2 .ensures)
 
 refused-requires-3 : tie.Need-refused-requires-3
 refused-requires-3 c κs = search needs
 
 returns-3 : tie.Need-returns-3
 returns-3 c =
-    as-short _ _ (bytes (c .before .before .before .before))
-    (short-past _ _ (c .before .before .before .if1 .left) ∙ (short-past _ _ (c .before .before .if2 .left) ∙ short-here _ _ (c .before .if3 .taken))) _
-    (c .refused3 .ensures)
+    as-short (bytes (c .before .before .before .before)) (λ h. omega (arith, h .1 .1 .0, c .before .if3 .taken)) (c .refused3 .ensures)
 
 reading-of-requires : tie.Need-reading-of-requires
 reading-of-requires c κs = search needs
@@ -67,7 +63,7 @@ reading-of-requires c κs = search needs
 returns-4 : tie.Need-returns-4
 returns-4 c =
     let j = c .before .before in
-    read-as _ (j .reading-of .ensures) (long j) _ (left-alone _ (j .reading-of .ensures) (c .if4 .taken))
+    as-long (long j) (j .reading-of .ensures) (sym (when-faulty _ _ _ (fault-found (j .reading-of .ensures) (c .if4 .taken) .parsed)))
 
 fill-table-requires : tie.Need-fill-table-requires
 fill-table-requires c κs = search needs
@@ -103,13 +99,12 @@ returns-5 c =
     let d = slotted w in
     let t = entered d in
     let j = t .before .before .before .before in
-    let l = buffers (tested j) in
     let e = j .reading-of .ensures in
-    let f = book-read (read-as l e (long j) _ refl) (t .before .before .if4 .left) in
+    let f = book-found e (t .before .before .if4 .left) in
     let first = t .fill-table .ensures .begins (f .book) (f .allowed) (f .bytes) in
-    read-as l (answered (f .book) (f .result) e) (long j) _
+    as-long (long j) (answered (f .book) (f .result) e)
     (same-buffers (t .fill-table .ensures .entries (f .book) (f .allowed) (f .bytes)) (d .fill-slots .ensures .items (f .book) (f .allowed) (f .bytes) first)
-    (w .fill-weights .ensures .each (f .book) (f .allowed) (f .bytes)) ∙ sym (when-fine _ l _ _ (long j) (f .book) (f .parsed)))
+    (w .fill-weights .ensures .each (f .book) (f .allowed) (f .bytes)) ∙ sym (when-fine _ _ _ (f .parsed)))
 
 pub read-spec : {M : Type 1} → statement M
 read-spec =

@@ -9,7 +9,8 @@ use Rattle.base.specs.Masks.{lowestIn}
 use Rattle.reversal.specs.Device.{Device}
 use Rattle.states.specs.declared.Visited.{Visited}
 use Rattle.states.specs.StateSets.{visitedIn, deviceIn}
-use Rattle.states.proofs.Laws.{states-over, commands-over, gain, mask-of, visited-out, visited-all, visited-low, visits-left}
+use Rattle.states.specs.Visits.{gain}
+use Rattle.states.proofs.Laws.{states-over, commands-over, mask-of, visited-out, visited-all, visited-low, visits-left}
 use Rattle.base.proofs.Visits.{some-left, none-left, Left, lowest-low, left-less, left-next, left-none}
 use Rattle.states.proofs.StateSet.visit.Statement.{statement}
 use Rattle.states.proofs.StateSet.visit.Tie as tie

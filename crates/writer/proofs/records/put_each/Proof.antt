@@ -10,7 +10,8 @@ use Rattle.octets.specs.Le.{bytesLe}
 use Rattle.octets.specs.Parts.{piece}
 use Rattle.octets.proofs.Le.{length-bytesLe}
 use Rattle.book.specs.Book.{twoBytes}
-use Rattle.writer.proofs.Rows.{rows-again, rows-done, weight-rows}
+use Rattle.octets.proofs.Turns.{rows-again, rows-done}
+use Rattle.writer.proofs.Rows.{weight-rows}
 use Rattle.writer.proofs.records.put_each.Statement.{statement}
 use Rattle.writer.proofs.records.put_each.Tie as tie
 use Rattle.writer.proofs.records.put_each.Reads as reads

@@ -8,7 +8,8 @@ use borrow.Author.Needs.{needs}
 use lib.ListN.{length}
 use lib.Seq.{sets}
 use Rattle.writer.specs.Records.{itemsBytes}
-use Rattle.writer.proofs.Rows.{rows-again, count-again, rows-done, count-done, item-rows}
+use Rattle.octets.proofs.Turns.{rows-again, count-again, rows-done, count-done}
+use Rattle.writer.proofs.Rows.{item-rows}
 use Rattle.writer.proofs.records.put_items.Statement.{statement}
 use Rattle.writer.proofs.records.put_items.Tie as tie
 

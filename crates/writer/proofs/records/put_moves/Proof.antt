@@ -9,7 +9,8 @@ use lib.ListN.{length}
 use lib.Seq.{sets}
 use Rattle.writer.specs.Records.{movesBytes}
 use Rattle.writer.proofs.Stores.{row-below}
-use Rattle.writer.proofs.Rows.{rows-again, count-again, rows-done, count-done, rows-by, move-rows}
+use Rattle.octets.proofs.Turns.{rows-again, count-again, rows-done, count-done, rows-by}
+use Rattle.writer.proofs.Rows.{move-rows}
 use Rattle.writer.proofs.records.put_moves.Statement.{statement}
 use Rattle.writer.proofs.records.put_moves.Tie as tie
 

@@ -9,7 +9,8 @@ use lib.ListN.{length}
 use lib.Seq.{sets}
 use Rattle.writer.specs.Records.{movesBytes}
 use Rattle.writer.proofs.Stores.{cells-below}
-use Rattle.writer.proofs.Rows.{rows-again, count-again, rows-done, count-done, rows-from, move-rows, entry-is}
+use Rattle.octets.proofs.Turns.{rows-again, count-again, rows-done, count-done, rows-from}
+use Rattle.writer.proofs.Rows.{move-rows, entry-is}
 use Rattle.writer.proofs.records.put_row.Statement.{statement}
 use Rattle.writer.proofs.records.put_row.Tie as tie
 

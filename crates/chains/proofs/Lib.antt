@@ -1,0 +1,2 @@
+pub mod ChainWritten
+pub mod FollowedIsChosen

@@ -1,0 +1,2 @@
+pub mod ChainFollowed
+pub mod Legs

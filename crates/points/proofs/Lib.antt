@@ -1,0 +1,9 @@
+pub mod Passes
+pub mod Asking
+pub mod Rows
+pub mod ReverseSum
+pub mod ItemsRead
+pub mod BestItem
+pub mod Numbers
+pub mod LinksAgree
+pub mod ItemsFit

@@ -1,0 +1,4 @@
+pub mod Believed
+pub mod Items
+pub mod Links
+pub mod Rows

@@ -4,8 +4,8 @@
 # arrays with little memory; the constant tables against the generator, where rt check tables has built it; the program
 # without standard input, where rt check rollback has built it; every call between guard pages and, where valgrind is
 # present, under it, CALLS times each (100,000); the stack that rollback.h states; the C and the Rust example on the
-# same inputs, as a plan, as a plan with little memory and as a page; README's example and docs/FORMAT.md's bytes and
-# page. Its last line says it all.
+# same inputs, as a plan, as a plan with little memory and as a page, and those that find a reverse; README's example
+# and docs/FORMAT.md's bytes, page and answers of finding. Its last line says it all.
 set -eu
 cd "$(dirname "$0")/.."
 calls=${1:-100000}
@@ -55,10 +55,22 @@ bytes_between() { sed -n "/^$1/,/^$2/p" docs/FORMAT.md | grep -o '`[0-9a-f][0-9a
 bytes_of() { od -An -v -tx1 "$1" | tr -d ' \n'; }
 [ "$(bytes_between '### Q, ' '## A run')" = "$(bytes_of $data/book.bin)" ]
 [ "$(bytes_between 'Q5, ' 'A history')" = "$(bytes_of $data/run.bin)" ]
+# The ring: its device, first and last move.
+ring=$work/ring
+printf '\2\0\1\0\10\2' >"$ring"
+for move in $(seq 0 15); do
+    state=$((move / 2)) command=$((move % 2))
+    to=$(((state + command + 1) % 8))
+    # shellcheck disable=SC2059
+    printf "\\12\\0\\2\\0\\$state\\$command\\$(printf %o $((1 << to)))\\0\\0\\0\\0\\0\\0\\0" >>"$ring"
+done
+[ "$(wc -c <"$ring")" -eq 230 ]
+(head -c 20 "$ring"; tail -c 14 "$ring") >"$work/ends"
+[ "$(bytes_between '## Finding' '## What')" = "$(bytes_of "$work/ends")" ]
 
 part='names'
 c/names.sh "$archive"
-say '10 names'
+say '11 names'
 
 part='sentences and claims'
 c/demands.sh
@@ -88,7 +100,7 @@ else
 fi
 
 part='build'
-for program in plan guard stack; do
+for program in plan find guard stack; do
     # shellcheck disable=SC2086
     ${CC:-cc} -std=c99 -O2 $strict -Iinclude -o "$work/$program" "c/$program.c" "$archive" -lpthread
 done
@@ -147,7 +159,7 @@ printf '\22\0\4\0\1\1\7\0\0\0\0\0\0\0\7\0\0\0\0\0\0\0' >"$work/in/run-11"
 printf '\33\0\4\0\2\1\1\1\0\0\0\0\0\0\0\7\0\0\0\0\0\0\0\7\0\0\0\0\0\0\0' >"$work/in/run-q8"
 printf '\11\0\4\0\0\7\0\0\0\0\0\0\0' >"$work/in/run-q11"
 if command -v cargo >/dev/null; then
-    cargo build -q --release --manifest-path rust/Cargo.toml --example plan --example ridge
+    cargo build -q --release --manifest-path rust/Cargo.toml --example plan --example find --example ridge
     rust=rust/target/release/examples
     tried=0
     # Without an option, with --small and with --page: one status, the same words. With little memory the plan is
@@ -163,7 +175,10 @@ if command -v cargo >/dev/null; then
             [ $status -eq "$expected" ] || { echo "Rust: status $status"; cat "$work/rust.out" "$work/rust.err"; exit 1; }
             cmp "$work/c.out" "$work/rust.out"
             cmp "$work/c.err" "$work/rust.err"
-            [ "$expected" -eq 0 ] || { [ -s "$work/c.err" ] && [ -s "$work/rust.err" ] && [ ! -s "$work/c.out" ]; }
+            if [ "$expected" -ne 0 ]; then
+                [ -s "$work/c.err" ]
+                [ ! -s "$work/c.out" ]
+            fi
             [ -n "$option" ] || { cp "$work/c.out" "$work/plan.out"; cp "$work/c.err" "$work/plan.err"; }
             [ "$option" != --small ] || cmp "$work/plan.out" "$work/c.out"
             cmp "$work/plan.err" "$work/c.err"
@@ -225,6 +240,64 @@ if command -v cargo >/dev/null; then
     done
     say "C and Rust example alike on $tried inputs, plan, with little memory too, and page, and on a full disk and a closed pipe"
 
+    # The two that find a reverse: one status, the same words.
+    sought=0
+    find() { # status, output or a part of the error's words, arguments
+        expected=$1 answer=$2
+        shift 2
+        part="examples: find $*"
+        for program in "$work/find" $rust/find; do
+            status=0; "$program" "$@" >"$work/out" 2>"$work/err" || status=$?
+            [ $status -eq "$expected" ] || { echo "$program: status $status"; cat "$work/out" "$work/err"; exit 1; }
+            if [ "$expected" -eq 0 ]; then
+                [ "$(cat "$work/out")" = "send $answer" ]
+                [ ! -s "$work/err" ]
+            else
+                [ ! -s "$work/out" ]
+                [ "$(grep -cF "$answer" "$work/err")" -eq 1 ]
+            fi
+            [ "$program" != "$work/find" ] || cp "$work/err" "$work/c.err"
+            cmp "$work/c.err" "$work/err"
+        done
+        sought=$((sought + 1))
+    }
+    # What docs/FORMAT.md says is found.
+    sed -n '/^## Finding/,/^## What/s/^| \([Qr][^|]*\) | \([^|]*\) | \([^|]*\) | \([^|]*\) | \([^|]*\) | .*/\1;\2;\3;\4;\5/p' \
+        docs/FORMAT.md >"$work/found"
+    while IFS=';' read -r book forward phi psi answer; do
+        file=$q
+        [ "$book" != ring ] || file=$ring
+        # shellcheck disable=SC2086
+        case $answer in
+            code*) find 1 "($answer)" "$file" "$phi" "$psi" $forward ;;
+            *) find 0 "$answer" "$file" "$phi" "$psi" $forward ;;
+        esac
+    done <"$work/found"
+    [ "$sought" -eq 14 ]
+    for book in "$in"/[0-9]*-*; do
+        code=${book##*/}
+        find 1 "(code ${code%%-*})" "$book" 8 7 3
+    done
+    cat "$q" >"$work/q3"
+    printf '\24\0\3\0\1\1\2\2\7\0\0\0\0\0\0\0\7\0\0\0\0\0\0\0' >>"$work/q3"
+    find 1 'item 5 (record at 225): the reverse commands can get stuck' "$work/q3" 8 7 3
+    find 1 '(code 14)' "$q" 7 7
+    find 1 '(code 14)' "$q" 7 7 0 0 0 0 0 0 0 0 0
+    find 1 '(code 14)' "$q" 18446744073709551615 0xffffffffFFFFFFFF 255
+    find 0 nothing "$q" 0x7 0x2 0x1
+    for wrong in '' 7 '7 7 256' '7 7 -1' '7 +7 1' '7 7 1a' '0x 7 1' '18446744073709551616 7 1' '0x10000000000000000 7 1'; do
+        # shellcheck disable=SC2086
+        find 2 'usage: find BOOK PHI PSI COMMAND...' "$q" $wrong
+    done
+    find 2 'No such file or directory' "$in/missing" 7 7 1
+    for program in "$work/find" $rust/find; do
+        part="examples: $program, full disk"
+        status=0; "$program" "$q" 7 7 2 >/dev/full 2>"$work/err" || status=$?
+        [ $status -eq 2 ]
+        echo 'standard output: No space left on device' | cmp - "$work/err"
+    done
+    say "C and Rust example of finding alike on $sought inputs, and answers as in docs/FORMAT.md"
+
     part='crate without std'
     cargo build -q --release --manifest-path rust/Cargo.toml --no-default-features --lib
 
@@ -238,6 +311,7 @@ if command -v cargo >/dev/null; then
     $rust/ridge "$work/ridge" >"$work/ridge.txt"
     sed -n '/^The book: the ridge repeater/,/^```$/p' README.md | sed '$d' >"$work/readme.txt"
     diff "$work/readme.txt" "$work/ridge.txt"
+    find 0 '8 1 9' "$work/ridge/book.bin" 0xffffffffffffffff 0x22220000 2
     try 0 "$work/ridge/book.bin" "$work/ridge/run.bin"
     part='README: the page'
     sed 's/ *$//' "$work/c.out" >"$work/page.txt"

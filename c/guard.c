@@ -5,7 +5,9 @@
  *        better aligned than their elements. Inputs are read-only. Each call is made twice, on other
  *        addresses and other former contents; the second time, the buffers that a refusal leaves are
  *        read-only too. Both answers and what was written must be equal, and all else as before. With a
- *        scratch they must also be those of rollback_assemble; what its 64 masks hold afterwards is free.
+ *        scratch they must also be those of rollback_assemble; what its 64 masks hold afterwards is free. What
+ *        finding gives must make an item that checking accepts; where it gives 15, the item without a reverse
+ *        command must not be accepted.
  * heap   Buffers are of malloc and of exact length, and lent ones hold nothing yet: for valgrind.
  *
  * CASES holds the books and runs that all inputs start from. The last line gives the numbers of calls and of
@@ -21,7 +23,7 @@
 #include <sys/wait.h>
 #include <unistd.h>
 
-enum { PAGE = 4096, BOOK_ROOM = 10 * PAGE, CALLS = 10, CODES = 14 };
+enum { PAGE = 4096, BOOK_ROOM = 10 * PAGE, CALLS = 11, CODES = 16 };
 
 /* What assembling is lent for the legs, whether a page, and whether a scratch in place of the book's buffers. */
 enum { AS_BYTES, AS_STRUCTS, ON_PAPER, WITH_SCRATCH, FORMS };
@@ -63,7 +65,7 @@ typedef struct {
     uint8_t fill;
 } area;
 
-static area book, run, table, slots, weights, plan, legs, structs, paper, scratch;
+static area book, run, forward, table, slots, weights, plan, legs, structs, paper, scratch;
 static area write_table, write_slots, write_weights, out;
 
 static void map(area *a, size_t room) {
@@ -191,7 +193,7 @@ static lengths some_lengths(void) {
 
 /* Whether a call with this code leaves the book in table, slots and weights. */
 static int leaves_the_book(uint64_t code) {
-    return code == ROLLBACK_E_DONE || (code >= ROLLBACK_E_NOT_REVERSE_PLAN && code <= ROLLBACK_E_NOT_EFFECTIVE);
+    return code == ROLLBACK_E_DONE || (code >= ROLLBACK_E_NOT_REVERSE_PLAN && code != ROLLBACK_E_ALL_ONES);
 }
 
 static void count(size_t call, uint64_t code, int on_read_only) {
@@ -298,6 +300,126 @@ static rollback_forecasted forecasting(uint64_t commands, const rollback_forecas
     return r;
 }
 
+/* What an item is to have, but for its reverse. */
+typedef struct {
+    uint8_t forward[9];
+    size_t count;
+    uint64_t phi, psi;
+} sought;
+
+/* What reading and checking answer to the book at hand with buffers of the stated lengths, and what these hold then. */
+static rollback_reading whole;
+static rollback_checking judged;
+static uint64_t whole_table[ROLLBACK_TABLE_LEN];
+static uint16_t whole_weights[ROLLBACK_WEIGHTS_LEN];
+static uint8_t whole_slots[ROLLBACK_SLOTS_LEN];
+
+static void read_whole(void) {
+    whole = rollback_read(pointer(&book), book.bytes, whole_table, ROLLBACK_TABLE_LEN, whole_slots, ROLLBACK_SLOTS_LEN,
+                          whole_weights, ROLLBACK_WEIGHTS_LEN);
+    judged = rollback_check(pointer(&book), book.bytes, whole_table, ROLLBACK_TABLE_LEN, whole_slots,
+                            ROLLBACK_SLOTS_LEN, whole_weights, ROLLBACK_WEIGHTS_LEN);
+}
+
+/* A mask of the book's states, or now and then another one. */
+static uint64_t some_mask(void) {
+    uint64_t all = whole.n < 64 ? ((uint64_t)1 << whole.n) - 1 : ~(uint64_t)0, mask = word();
+    return below(20) == 0 ? mask : below(2) ? all : below(2) ? mask & all : mask & word() & all;
+}
+
+/* What an item of the book has, or commands and masks of its device, now and then others. */
+static sought some_sought(void) {
+    sought s;
+    size_t i;
+    s.count = below(20) == 0 ? below(10) : 1 + below(below(4) == 0 ? 8 : 2);
+    for (i = 0; i < sizeof s.forward; i++)
+        s.forward[i] = (uint8_t)(below(40) == 0 || whole.m == 0 ? word() : below(whole.m));
+    s.phi = some_mask();
+    s.psi = some_mask();
+    if (whole.items != 0 && below(2) == 0) {
+        const uint8_t *slot = whole_slots + ROLLBACK_SLOT_LEN * below(whole.items);
+        s.count = slot[0];
+        memcpy(s.forward, slot + 2, 8);
+        memcpy(&s.phi, slot + 18, 8);
+        memcpy(&s.psi, slot + 26, 8);
+    }
+    return s;
+}
+
+/*
+ * What checking answers to a book of that device and one item: what was sought, with these commands as reverse; 14
+ * where no such book can be written.
+ */
+static uint64_t code_with_item(const sought *s, const uint8_t *commands, uint64_t count) {
+    static uint64_t entries[ROLLBACK_TABLE_LEN];
+    static uint16_t weight_of[ROLLBACK_WEIGHTS_LEN];
+    static uint8_t items[ROLLBACK_SLOTS_LEN], bytes[ROLLBACK_OUT_LEN];
+    rollback_writing w;
+    memset(items, 0, ROLLBACK_SLOT_LEN);
+    items[0] = (uint8_t)s->count;
+    items[1] = (uint8_t)count;
+    memcpy(items + 2, s->forward, s->count);
+    memcpy(items + 10, commands, count);
+    memcpy(items + 18, &s->phi, 8);
+    memcpy(items + 26, &s->psi, 8);
+    w = rollback_write(whole.n, whole.m, 1, whole_table, ROLLBACK_TABLE_LEN, items, ROLLBACK_SLOTS_LEN,
+                       whole_weights, ROLLBACK_WEIGHTS_LEN, bytes, ROLLBACK_OUT_LEN);
+    if (w.code != 0)
+        return ROLLBACK_E_ITEM_FIELDS;
+    return rollback_check(bytes, w.length, entries, ROLLBACK_TABLE_LEN, items, ROLLBACK_SLOTS_LEN,
+                          weight_of, ROLLBACK_WEIGHTS_LEN)
+        .code;
+}
+
+/* Finding in the book that was read as a whole, once or for the second time after the answer `first`. */
+static rollback_found finding(const sought *s, lengths l, int at_end, const rollback_found *first) {
+    static copy tables;
+    rollback_found r;
+    size_t i;
+    int second = first != NULL, untouched = second && !leaves_the_book(first->code);
+    give(&forward, s->forward, s->count, s->count, at_end);
+    lend(&table, l.table * sizeof(uint64_t), at_end, (uint8_t)word());
+    if (untouched)
+        allow(&table, PROT_READ);
+    now = "rollback_find";
+    r = rollback_find(pointer(&book), book.bytes, pointer(&forward), s->count, s->phi, s->psi, pointer(&table), l.table);
+    count(3, r.code, untouched);
+    look(r.commands, sizeof r.commands);
+    if (second && (r.code != first->code || r.place != first->place || r.count != first->count ||
+                   memcmp(r.commands, first->commands, sizeof r.commands) != 0))
+        fail("gave another answer the second time");
+    if (r.count > (r.code == 0 ? ROLLBACK_FOUND_LEN : 0))
+        fail("gave over 3 commands, or refused with a count that is not 0");
+    for (i = r.count; i < ROLLBACK_FOUND_LEN; i++)
+        if (r.commands[i] != 0)
+            fail("gave an unused command that is not 0");
+    if (l.table < ROLLBACK_TABLE_LEN) {
+        if (r.code != ROLLBACK_E_SHORT_BUFFER || r.place != 0)
+            fail("took a short table");
+    } else if (judged.code != 0) {
+        if (r.code != judged.code || r.place != judged.place)
+            fail("gave another code or place than checking");
+    } else if ((r.code != 0 && r.code < ROLLBACK_E_ITEM_FIELDS) || r.place != 0) {
+        fail("refused a book that checking takes");
+    }
+    if (leaves_the_book(r.code))
+        wrote(&table, whole.n * whole.m * sizeof(uint64_t), &tables, second);
+    else
+        kept(&table, 0);
+    if (leaves_the_book(r.code) && memcmp(table.at, whole_table, whole.n * whole.m * sizeof(uint64_t)) != 0)
+        fail("left another table than reading");
+    if (r.code == 0 || r.code >= ROLLBACK_E_ITEM_FIELDS) {
+        uint64_t with_item = code_with_item(s, r.commands, r.count);
+        if (r.code == 0 && with_item != 0)
+            fail("gave a reverse that makes no accepted item");
+        if ((r.code == ROLLBACK_E_ITEM_FIELDS) != (with_item == ROLLBACK_E_ITEM_FIELDS))
+            fail("gave 14 for what an item may hold, or not for what none may");
+        if (r.code == ROLLBACK_E_NO_REVERSE && with_item == 0)
+            fail("gave 15, though the item without a reverse command is accepted");
+    }
+    return r;
+}
+
 /* The sum of the weights of so many commands of the plan, as both are lent. */
 static uint64_t plan_sum(uint64_t commands) {
     const uint16_t *weight = (const void *)weights.at;
@@ -376,7 +498,7 @@ static rollback_paged assembling(int form, lengths l, int at_end, const rollback
         p = rollback_page(pointer(&book), book.bytes, pointer(&run), run.bytes, pointer(&table), l.table,
                           pointer(&slots), l.slots, pointer(&weights), l.weights, pointer(&plan), l.plan,
                           pointer(&legs), l.legs, pointer(&paper), l.paper);
-    count(3 + (size_t)form, r->code, refused);
+    count(4 + (size_t)form, r->code, refused);
     look(r->fewest, sizeof r->fewest);
     if (second && (other_answer(r, before) || p.length != first->length))
         fail("gave another answer the second time");
@@ -411,7 +533,7 @@ static rollback_writing writing(uint64_t n, uint64_t m, uint64_t items, lengths 
     now = "rollback_write";
     r = rollback_write(n, m, items, pointer(&write_table), l.write_table, pointer(&write_slots), l.write_slots,
                        pointer(&write_weights), l.write_weights, pointer(&out), l.out);
-    count(7, r.code, refused);
+    count(8, r.code, refused);
     if (second && (r.code != first->code || r.place != first->place || r.length != first->length))
         fail("gave another answer the second time");
     if (r.code != 0 && r.length != 0)
@@ -476,6 +598,8 @@ static void all_calls(const uint8_t *book_bytes, size_t book_length, const uint8
     lengths l = some_lengths();
     rollback_checking r;
     rollback_forecasted some, of_run;
+    sought s;
+    rollback_found f;
     rollback_paged a;
     rollback_writing w;
     uint64_t n, m, all, commands = below(3) ? below(33) : some_number(32);
@@ -501,6 +625,10 @@ static void all_calls(const uint8_t *book_bytes, size_t book_length, const uint8
     give(&book, book_bytes, book_length, book_length, !at_end);
     forecasting(commands, &some);
     forecasting(run_length > 4 ? run_bytes[4] : 0, &of_run);
+    read_whole();
+    s = some_sought();
+    f = finding(&s, l, at_end, NULL);
+    finding(&s, l, !at_end, &f);
     for (form = AS_BYTES; form < FORMS; form++) {
         a = assembling(form, l, at_end, NULL);
         assembling(form, l, !at_end, &a);
@@ -523,8 +651,8 @@ static void all_calls(const uint8_t *book_bytes, size_t book_length, const uint8
     w = writing(n, m, all, l, at_end, NULL);
     writing(n, m, all, l, !at_end, &w);
 
-    looking_up(8, "rollback_ridge", rollback_ridge, 64, 16, 1);
-    looking_up(9, "rollback_portable", rollback_portable, 32, 12, 0);
+    looking_up(9, "rollback_ridge", rollback_ridge, 64, 16, 1);
+    looking_up(10, "rollback_portable", rollback_portable, 32, 12, 0);
 }
 
 /* That the pages do what they are for: each of these must end by a fault. */
@@ -550,9 +678,9 @@ static void try_pages(void) {
 }
 
 int main(int argc, char **argv) {
-    static const char *const names[CALLS] = {"read", "check", "forecast", "assemble", "assemble_legs",
+    static const char *const names[CALLS] = {"read", "check", "forecast", "find", "assemble", "assemble_legs",
                                              "page", "assemble_small", "write", "ridge", "portable"};
-    static const unsigned has[CALLS] = {0x20FF, 0x31FF, 0x22FD, 0x3FFF, 0x3FFF,
+    static const unsigned has[CALLS] = {0x20FF, 0x31FF, 0x22FD, 0xF1FF, 0x3FFF, 0x3FFF,
                                         0x3FFF, 0x3FFF, 0x00A3, 0x0021, 0x0021};
     static uint8_t book_bytes[BOOK_ROOM], run_bytes[BOOK_ROOM];
     file cases;
@@ -576,6 +704,7 @@ int main(int argc, char **argv) {
     }
     map(&book, BOOK_ROOM);
     map(&run, BOOK_ROOM);
+    map(&forward, PAGE);
     map(&table, 5 * PAGE);
     map(&slots, PAGE);
     map(&weights, PAGE);

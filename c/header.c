@@ -33,6 +33,10 @@ typedef char forecast_result[sizeof(rollback_forecasted) == 40 && offsetof(rollb
                                      offsetof(rollback_forecasted, legs) == 32
                                  ? 1
                                  : -1];
+typedef char found_result[sizeof(rollback_found) == 32 && offsetof(rollback_found, count) == 16 &&
+                                  offsetof(rollback_found, commands) == 24 && ROLLBACK_FOUND_LEN == 3
+                              ? 1
+                              : -1];
 typedef char assembly_result[sizeof(rollback_assembly) == 176 && offsetof(rollback_assembly, sum) == 32 &&
                                      offsetof(rollback_assembly, fewest) == 40
                                  ? 1
@@ -111,6 +115,17 @@ static size_t put_fields_book(uint8_t *book) {
     return (size_t)(at - book);
 }
 
+/*
+ * Four states with one move each: command 0 leads from state 0 to 3, and 4, 1 and 2 lead from there back to 0, by 2
+ * and 1.
+ */
+static const uint8_t around[] = {2, 0, 1, 0, 4, 5,                           /* device */
+                                 10, 0, 2, 0, 0, 0, 8, 0, 0, 0, 0, 0, 0, 0,  /* move 0 */
+                                 10, 0, 2, 0, 1, 2, 1, 0, 0, 0, 0, 0, 0, 0,  /* move 1 */
+                                 10, 0, 2, 0, 2, 1, 2, 0, 0, 0, 0, 0, 0, 0,  /* move 2 */
+                                 10, 0, 2, 0, 3, 4, 4, 0, 0, 0, 0, 0, 0, 0}; /* move 3, at 48 */
+static const uint8_t zeros[9] = {0, 0, 0, 0, 0, 0, 0, 0, 0};
+
 /* The command between points j and j + 1: each once, and not in their order. */
 static uint8_t sent_at(unsigned j) {
     return (uint8_t)((5 * j + 3) % SENT);
@@ -143,6 +158,46 @@ static int checking_is(rollback_checking r, uint64_t code, uint64_t place, uint6
 static int forecast_is(rollback_forecasted r, uint64_t code, uint64_t place, uint64_t units, uint64_t plan_bytes,
                        uint64_t legs) {
     return r.code == code && r.place == place && r.units == units && r.plan_bytes == plan_bytes && r.legs == legs;
+}
+
+static int found_is(rollback_found r, uint64_t code, uint64_t place, uint64_t count, uint8_t first, uint8_t second,
+                    uint8_t third) {
+    return r.code == code && r.place == place && r.count == count && r.commands[0] == first &&
+           r.commands[1] == second && r.commands[2] == third;
+}
+
+/*
+ * Finding on that device: what each refusal is for, and that the table is read on 14 and 15 too and stays where it is
+ * short. Entry 20 is past n * m.
+ */
+static void expect_finding(void) {
+    static uint64_t table[ROLLBACK_TABLE_LEN];
+    static const uint8_t five[] = {5};
+    static const struct {
+        const uint8_t *forward;
+        size_t count;
+        uint64_t phi, psi;
+        size_t table_len;
+        uint64_t code;
+    } cases[] = {{zeros, 1, 15, 15, ROLLBACK_TABLE_LEN - 1, ROLLBACK_E_SHORT_BUFFER},
+                 {NULL, 0, 15, 15, ROLLBACK_TABLE_LEN, ROLLBACK_E_ITEM_FIELDS},
+                 {zeros, 9, 15, 15, ROLLBACK_TABLE_LEN, ROLLBACK_E_ITEM_FIELDS},
+                 {five, 1, 15, 15, ROLLBACK_TABLE_LEN, ROLLBACK_E_ITEM_FIELDS},
+                 {zeros, 1, 16, 15, ROLLBACK_TABLE_LEN, ROLLBACK_E_ITEM_FIELDS},
+                 {zeros, 1, 15, 16, ROLLBACK_TABLE_LEN, ROLLBACK_E_ITEM_FIELDS},
+                 {zeros, 8, 15, 15, ROLLBACK_TABLE_LEN, ROLLBACK_E_NO_REVERSE},
+                 {zeros, 1, 0, 15, ROLLBACK_TABLE_LEN, ROLLBACK_E_NO_REVERSE},
+                 {zeros, 1, 15, 0, ROLLBACK_TABLE_LEN, ROLLBACK_E_NO_REVERSE}};
+    size_t i;
+    for (i = 0; i < sizeof cases / sizeof cases[0]; i++) {
+        uint64_t read = cases[i].code == ROLLBACK_E_SHORT_BUFFER ? 7 : 8;
+        table[0] = table[20] = 7;
+        hold(found_is(rollback_find(around, sizeof around, cases[i].forward, cases[i].count, cases[i].phi,
+                                    cases[i].psi, table, cases[i].table_len),
+                      cases[i].code, 0, 0, 0, 0, 0) &&
+                 table[0] == read && table[20] == 7,
+             "a refusal of finding");
+    }
 }
 
 static int writing_is(rollback_writing r, uint64_t code, uint64_t place, uint64_t length) {
@@ -223,6 +278,12 @@ static void expect_fields(void) {
     hold(forecast_is(rollback_forecast(good, sizeof good, 9), 0, 0, 224, 27, 9), "a forecast");
     hold(forecast_is(rollback_forecast(no_reading, sizeof no_reading, 9), ROLLBACK_E_FIELD, REFUSED_READING, 0, 0, 0),
          "a forecast, refused");
+    hold(found_is(rollback_find(around, sizeof around, zeros, 1, 15, 15, table, ROLLBACK_TABLE_LEN),
+                  0, 0, 3, 4, 1, 2),
+         "finding");
+    hold(found_is(rollback_find(around, sizeof around - 1, zeros, 1, 15, 15, table, ROLLBACK_TABLE_LEN),
+                  ROLLBACK_E_CUT_OFF, 48, 0, 0, 0, 0),
+         "finding, refused");
     hold(lookup_is(rollback_ridge(0, 13), 0, 0, 15) && lookup_is(rollback_ridge(64, 0), ROLLBACK_E_FIELD, 0, 0) &&
              lookup_is(rollback_portable(16, 5), 0, 0, 2162688) &&
              lookup_is(rollback_portable(0, 12), ROLLBACK_E_FIELD, 0, 0),
@@ -340,6 +401,7 @@ int main(void) {
     }
 
     expect_fields();
+    expect_finding();
 
     expect(rollback_message(ROLLBACK_E_DONE), "done");
     expect(rollback_message(ROLLBACK_E_TOO_MANY_ITEMS), "a book has at most 64 items");
@@ -349,7 +411,10 @@ int main(void) {
     expect(rollback_message(ROLLBACK_E_NOT_EFFECTIVE),
            "the item can never be used: its forward commands lead from no start in psi to an end in phi");
     expect(rollback_message(ROLLBACK_E_ALL_ONES), "every weight is 1, as without this record: leave it out");
-    expect(rollback_message(ROLLBACK_E_ALL_ONES + 1), "a code that this header doesn't know");
+    expect(rollback_message(ROLLBACK_E_ITEM_FIELDS),
+           "an item has 1 to 8 forward commands, and only commands and states of its device");
+    expect(rollback_message(ROLLBACK_E_NO_REVERSE), "no reverse of at most 3 commands makes an accepted item");
+    expect(rollback_message(ROLLBACK_E_NO_REVERSE + 1), "a code that this header doesn't know");
     expect_record(small, sizeof small, 0, "device", 0);
     expect_record(small, sizeof small, 6, "weights", 0);
     expect_record(small, sizeof small, 12, "move", 0);

@@ -11,6 +11,7 @@ expected='rollback_assemble
 rollback_assemble_legs
 rollback_assemble_small
 rollback_check
+rollback_find
 rollback_forecast
 rollback_page
 rollback_portable
@@ -24,7 +25,7 @@ if [ "$exported" != "$expected" ]; then
     printf 'exported:\n%s\nexpected:\n%s\n' "$exported" "$expected"
     exit 1
 fi
-printf 'exports exactly these ten:\n%s\n' "$exported"
+printf 'exports exactly these eleven:\n%s\n' "$exported"
 
 # The claims of exported calls are those called exported-.. and assembling-legs, a call that no crate below planner
 # has. A statement is what stands between a claim's name and the next line that begins at the left.

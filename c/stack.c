@@ -44,6 +44,17 @@ static void forecast(void) {
     code = r.code;
 }
 
+/* One to four forward commands and all states: where no two commands undo them, rows of three are tried. */
+static void find(void) {
+    static const uint8_t forward[] = {0, 2, 4, 6};
+    uint64_t all = device.n < 64 ? ((uint64_t)1 << device.n) - 1 : ~(uint64_t)0;
+    size_t k;
+    for (k = 1; k <= sizeof forward; k++) {
+        rollback_found r = rollback_find(book.bytes, book.length, forward, k, all, all, table, ROLLBACK_TABLE_LEN);
+        code = r.code;
+    }
+}
+
 static void assemble(void) {
     rollback_assembly r = rollback_assemble(book.bytes, book.length, run.bytes, run.length, table, ROLLBACK_TABLE_LEN,
                                             slots, ROLLBACK_SLOTS_LEN, weights, ROLLBACK_WEIGHTS_LEN,
@@ -128,6 +139,7 @@ static const struct {
     {"rollback_read", read_book, ROLLBACK_READ_STACK},
     {"rollback_check", check, ROLLBACK_CHECK_STACK},
     {"rollback_forecast", forecast, ROLLBACK_FORECAST_STACK},
+    {"rollback_find", find, ROLLBACK_FIND_STACK},
     {"rollback_assemble", assemble, ROLLBACK_ASSEMBLE_STACK},
     {"rollback_assemble_legs", assemble_legs, ROLLBACK_ASSEMBLE_LEGS_STACK},
     {"rollback_assemble_small", assemble_small, ROLLBACK_ASSEMBLE_SMALL_STACK},

@@ -18,9 +18,9 @@
  * Calls use the SSE registers, as the calling convention of x86-64 allows, and nothing of AVX. Where nobody saves
  * them, as in an interrupt handler, the caller does.
  *
- * Lengths count elements. Where a length is 0 the pointer may be null. Book and run may have any length.
- * Lent buffers may be longer than stated: what lies past the stated length stays as it was, and no answer
- * depends on it. No call keeps anything: on buffers of their own, calls may run at the same time.
+ * Lengths count elements. Where a length is 0 the pointer may be null. Book, run and forward commands may have
+ * any length. Lent buffers may be longer than stated: what lies past the stated length stays as it was, and no
+ * answer depends on it. No call keeps anything: on buffers of their own, calls may run at the same time.
  */
 #ifndef ROLLBACK_H
 #define ROLLBACK_H
@@ -33,9 +33,9 @@ extern "C" {
 #endif
 
 /* Of this header; the Rust crate has the same. */
-#define ROLLBACK_VERSION "0.9.0"
+#define ROLLBACK_VERSION "0.10.0"
 #define ROLLBACK_VERSION_MAJOR 0
-#define ROLLBACK_VERSION_MINOR 9
+#define ROLLBACK_VERSION_MINOR 10
 #define ROLLBACK_VERSION_PATCH 0
 
 /* The least lengths of lent buffers, in elements. A shorter one is refused with code 1. */
@@ -53,6 +53,7 @@ extern "C" {
 #define ROLLBACK_BOOK_LEN 31178 /* bytes of the largest book that a call takes */
 #define ROLLBACK_RUN_LEN 301    /* bytes of the largest run */
 #define ROLLBACK_POINTS_LEN 33  /* points of the largest run, 0 to 32 */
+#define ROLLBACK_FOUND_LEN 3    /* commands of the longest reverse that finding gives */
 /*
  * A slot: k, r, 8 forward commands, 8 reverse commands, 8-byte masks phi and psi, little-endian.
  * Of the commands the first k and r count; the others are 0.
@@ -75,6 +76,7 @@ extern "C" {
 #define ROLLBACK_READ_STACK 1024
 #define ROLLBACK_CHECK_STACK 1024
 #define ROLLBACK_FORECAST_STACK 512
+#define ROLLBACK_FIND_STACK 2048
 #define ROLLBACK_ASSEMBLE_STACK 4096
 #define ROLLBACK_ASSEMBLE_LEGS_STACK 4096
 #define ROLLBACK_ASSEMBLE_SMALL_STACK 3072
@@ -90,7 +92,7 @@ extern "C" {
  * The codes. The place is the offset of the faulty record's first byte for 2 to 8, 12 and 13 in a book, and
  * 0 for the others; rollback_write has places of its own. The order of judging is 1; then, record by record,
  * 2, 3, 7, 4, 5, then 6 or 13, the first faulty record deciding; then, item by item, 8 or 12, the first wrong
- * item deciding; then 9, 10, 11. A forecast judges no item.
+ * item deciding; then 9, 10, 11, or of finding 14, 15. A forecast judges no item.
  */
 enum {
     ROLLBACK_E_DONE = 0,
@@ -107,7 +109,9 @@ enum {
     ROLLBACK_E_NO_HISTORY = 10,      /* nothing can have happened that fits the run */
     ROLLBACK_E_NO_CHAIN = 11,        /* no items lead from the run's end back to its start */
     ROLLBACK_E_NOT_EFFECTIVE = 12,   /* an item can never be used: a conditional reverse plan, but not effective */
-    ROLLBACK_E_ALL_ONES = 13         /* a weights record in which every weight is 1 */
+    ROLLBACK_E_ALL_ONES = 13,        /* a weights record in which every weight is 1 */
+    ROLLBACK_E_ITEM_FIELDS = 14,     /* forward commands or masks that no item may hold */
+    ROLLBACK_E_NO_REVERSE = 15       /* no reverse of at most 3 commands makes an accepted item */
 };
 
 /* From reading: n states, m commands, the number of items; all three 0 on a refusal. */
@@ -130,6 +134,15 @@ typedef struct {
 typedef struct {
     uint64_t code, place, units, plan_bytes, legs;
 } rollback_forecasted;
+
+/*
+ * From finding: the number of reverse commands, 0 to 3, and the commands in order, 0 where they are not used; all
+ * four are 0 on a refusal.
+ */
+typedef struct {
+    uint64_t code, place, count;
+    uint8_t commands[ROLLBACK_FOUND_LEN];
+} rollback_found;
 
 /*
  * From assembling: the numbers of commands and legs, and the sum of the commands' weights, all 0 on a
@@ -216,6 +229,26 @@ rollback_checking rollback_check(
  * 9           i is over 32; after the others.
  */
 rollback_forecasted rollback_forecast(const uint8_t *book, size_t book_len, uint64_t i);
+
+/*
+ * Checks a book and finds the reverse for an item with these forward commands, phi and psi: the shortest row of
+ * at most 3 commands, or of none, that makes an accepted item; among equals, the one with the lower command at the
+ * first difference. Weights don't count, nor whether the book has room for another item.
+ *
+ * Takes book, forward commands, phi and psi; lends table. Codes: 0 to 8, 12 to 15.
+ * 0           table as after reading with code 0.
+ * 1           table is shorter than stated: untouched.
+ * 2 to 7, 13  as reading, at the same place; table untouched.
+ * 8, 12       as checking, at the same place; table as after reading.
+ * 14          no item may hold what was passed: no forward command or over 8, a command at m or above, a mask
+ *             with a bit at n or above; after the book's codes. Table as after reading.
+ * 15          there is no such row, as with phi or psi zero; after all others. Table as after reading.
+ */
+rollback_found rollback_find(
+    const uint8_t *book, size_t book_len,
+    const uint8_t *forward, size_t forward_len,
+    uint64_t phi, uint64_t psi,
+    uint64_t *table, size_t table_len);
 
 /*
  * Checks a book and assembles from its items the plan that undoes a run: the chain whose commands' weights

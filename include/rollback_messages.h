@@ -15,7 +15,7 @@
 #define ROLLBACK_INLINE static
 #endif
 
-/* What a code of reading, checking, assembling, of a forecast, of the page or of a lookup means. */
+/* What a code of reading, checking, finding, assembling, of a forecast, of the page or of a lookup means. */
 ROLLBACK_INLINE const char *rollback_message(uint64_t code) {
     static const char *const messages[] = {
         "done",
@@ -31,7 +31,9 @@ ROLLBACK_INLINE const char *rollback_message(uint64_t code) {
         "nothing that the device can do fits what was sent and heard",
         "no items of the book lead from the run's end back to its start",
         "the item can never be used: its forward commands lead from no start in psi to an end in phi",
-        "every weight is 1, as without this record: leave it out"};
+        "every weight is 1, as without this record: leave it out",
+        "an item has 1 to 8 forward commands, and only commands and states of its device",
+        "no reverse of at most 3 commands makes an accepted item"};
     return code < sizeof messages / sizeof messages[0] ? messages[code] : "a code that this header doesn't know";
 }
 

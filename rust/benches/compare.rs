@@ -1,5 +1,5 @@
 //! The verified library beside the plain program and the fast one: the time of each call, how checking
-//! grows, and the library's stack use. Prints tables.
+//! and finding grow, and the library's stack use. Prints tables.
 
 use std::hint::black_box;
 use std::path::Path;
@@ -8,6 +8,7 @@ use std::time::{Duration, Instant};
 use std::{env, fs, process};
 
 use rollback::calls;
+use rollback_cases::device::{book_bytes, Device};
 use rollback_cases::{
     branching_book, branching_run, grown_book, largest_book, largest_run, q5_run, q_book,
     ridge_book, ridge_run,
@@ -35,6 +36,16 @@ struct Lent {
     out: Vec<u8>,
     /// n, m and items of the book.
     device: [u64; 3],
+    sought: Sought,
+}
+
+/// What finding is given, and the code and the number of commands that it is to answer.
+#[derive(Default)]
+struct Sought {
+    forward: Vec<u8>,
+    phi: u64,
+    psi: u64,
+    answer: [u64; 2],
 }
 
 impl Lent {
@@ -58,11 +69,12 @@ impl Lent {
             rust_structs: vec![rollback_plain::Leg::default(); calls::LEG_STRUCTS_LEN],
             out: vec![0; calls::OUT_LEN],
             device: [r.n, r.m, r.items],
+            sought: Sought::default(),
         }
     }
 }
 
-/// Makes a call and gives its code.
+/// Makes a call and gives its code, or 0 where the answer is the one that is expected.
 type Make = fn(&mut Lent) -> u64;
 
 /// A call of the library, of the plain program and of the fast one.
@@ -159,6 +171,32 @@ const ASSEMBLE_SMALL: [Make; 2] = [
     ).code,
 ];
 
+const FIND: Call = call!("find", |l| {
+    let s = &l.sought;
+    let r = black_box(program::find(
+        &l.book,
+        &s.forward,
+        s.phi,
+        s.psi,
+        &mut l.table,
+    ));
+    u64::from([r.code, r.count] != s.answer)
+});
+
+/// 64 states; each command stays in all of them but the last, and leads from there to `from_last`. From
+/// the others none leads to the last, so no row brings it back: but each is tried on all other starts
+/// first.
+fn lost_book(m: usize, from_last: u64) -> Vec<u8> {
+    let mut device = Device::empty(64, m);
+    for state in 0..64 {
+        for command in 0..m {
+            let outcomes = if state < 63 { 1 << state } else { from_last };
+            device.set(state, command, outcomes);
+        }
+    }
+    book_bytes(&device, &[])
+}
+
 /// Each entry looked up. Numbers and result are opaque, so that no program leaves the mask out.
 fn every_entry(states: u64, commands: u64, lookup: fn(u64, u64) -> u64) -> u64 {
     (0..states)
@@ -248,6 +286,62 @@ fn compare_small(lent: &mut Lent, title: &str) {
         assemble.shown(),
         plain.shown()
     );
+}
+
+/// Finding in the books at hand, then where it takes long, by commands and by starts.
+fn finding() {
+    let sought = |forward: &[u8], phi, psi, answer| Sought {
+        forward: forward.to_vec(),
+        phi,
+        psi,
+        answer,
+    };
+    let compare = |title: &str, book: Vec<u8>, sought: Sought| {
+        let mut lent = Lent::new(book, Vec::new());
+        lent.sought = sought;
+        compare(&FIND, &mut lent, title);
+    };
+    let (all, relay, none) = (u64::MAX, 0xFFFF_0000, [15, 0]);
+    heading("Finding", "book, forward commands, answer");
+    let relay_on_1 = relay & 0x2222_2222_2222_2222;
+    for (title, forward, psi, answer) in [
+        ("11 12 from standby: nothing", &[11, 12][..], 0xFFFF, [0, 0]),
+        ("14 from any state: 1 command", &[14], all, [0, 1]),
+        ("11 from relay: 2 commands", &[11], relay, [0, 2]),
+        ("2 from relay on 1: 3 commands", &[2], relay_on_1, [0, 3]),
+        ("14 2 from relay on 1: code 15", &[14, 2], relay_on_1, none),
+    ] {
+        let title = format!("ridge, {title}");
+        compare(&title, ridge_book(), sought(forward, all, psi, answer));
+    }
+    compare("Q, 2: 1 command", q_book(), sought(&[2], 7, 7, [0, 1]));
+    compare("Q, 1: code 15", q_book(), sought(&[1], 7, 7, none));
+    let title = "largest, 0 2 4: 3 commands";
+    compare(title, largest_book(), sought(&[0, 2, 4], all, all, [0, 3]));
+    let (title, no_traps) = ("branching, 0 8 9: 3 commands", 0x7FFF_7FFF_7FFF_7FFF);
+    compare(
+        title,
+        branching_book(),
+        sought(&[0, 8, 9], no_traps, all, [0, 3]),
+    );
+    let title = "lost to all states, 32 commands, 64 starts: code 15";
+    compare(title, lost_book(32, all), sought(&[0], all, all, none));
+
+    // State 62 is no start: from 63 each command leads there.
+    let lost = |m, others: u32| {
+        let psi = 1 << 63 | ((1 << others) - 1);
+        (lost_book(m, 1 << 62), sought(&[0], all, psi, none))
+    };
+    heading("Finding by commands (63 starts, code 15)", "m");
+    for m in [4, 8, 16, 32] {
+        let (book, sought) = lost(m, 62);
+        compare(&m.to_string(), book, sought);
+    }
+    heading("Finding by starts (m = 32, code 15)", "starts");
+    for starts in [1, 4, 16, 32, 63] {
+        let (book, sought) = lost(32, starts - 1);
+        compare(&starts.to_string(), book, sought);
+    }
 }
 
 fn heading(title: &str, first: &str) {
@@ -350,5 +444,6 @@ fn main() {
         &[2, 4, 8, 12, 16],
         |length| grown_book(64, 64, length / 2, length / 2),
     );
+    finding();
     stack(&books);
 }

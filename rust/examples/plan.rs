@@ -5,33 +5,15 @@
 //! largest book or run has. Status 0 if there is a plan, 1 if the library refuses, 2 on bad usage or
 //! a file that can't be read or written, a closed pipe too. `c/plan.c` does the same in C.
 
+mod files;
+
 use std::env;
-use std::fmt::Display;
-use std::fs::File;
-use std::io::{self, Read, Write};
 use std::path::Path;
 use std::process::ExitCode;
 
 use rollback::{calls, Fault};
 
-/// What went wrong, and the status.
-type Failure = (String, u8);
-
-/// What the system says of a file that can't be read or written, without its number.
-fn failure(name: impl Display, error: &io::Error) -> Failure {
-    let words = error.to_string();
-    let words = words.split(" (os error").next().unwrap_or_default();
-    (format!("{name}: {words}"), 2)
-}
-
-/// The file's first bytes, one more at most than the largest book or run has.
-fn load(name: &Path, largest: usize) -> Result<Vec<u8>, Failure> {
-    let mut bytes = Vec::new();
-    File::open(name)
-        .and_then(|file| file.take(largest as u64 + 1).read_to_end(&mut bytes))
-        .map_err(|error| failure(name.display(), &error))?;
-    Ok(bytes)
-}
+use files::{load, Failure};
 
 /// The page or the plan.
 fn text(option: Option<&str>, book: &[u8], run: &[u8]) -> Result<String, Box<Fault>> {
@@ -47,7 +29,7 @@ fn text(option: Option<&str>, book: &[u8], run: &[u8]) -> Result<String, Box<Fau
     }
 }
 
-fn print() -> Result<(), Failure> {
+fn answer() -> Result<String, Failure> {
     let names: Vec<_> = env::args_os().skip(1).collect();
     let (option, names) = match names.split_first() {
         Some((name, rest)) if name == "--page" || name == "--small" => (name.to_str(), rest),
@@ -59,22 +41,12 @@ fn print() -> Result<(), Failure> {
     let (book, run) = (Path::new(book), Path::new(run));
     let book_bytes = load(book, calls::BOOK_LEN)?;
     let run_bytes = load(run, calls::RUN_LEN)?;
-    let text = text(option, &book_bytes, &run_bytes).map_err(|fault| {
+    text(option, &book_bytes, &run_bytes).map_err(|fault| {
         let file = if fault.record().is_some() { book } else { run };
         (format!("{}: {fault}", file.display()), 1)
-    })?;
-    let mut out = io::stdout().lock();
-    write!(out, "{text}")
-        .and_then(|()| out.flush())
-        .map_err(|error| failure("standard output", &error))
+    })
 }
 
 fn main() -> ExitCode {
-    match print() {
-        Ok(()) => ExitCode::SUCCESS,
-        Err((text, status)) => {
-            eprintln!("{text}");
-            ExitCode::from(status)
-        }
-    }
+    files::print(answer())
 }

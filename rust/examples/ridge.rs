@@ -1,9 +1,9 @@
 //! A book for the ridge repeater, from its first mistake to a plan: ridge [FOLDER]
 //!
-//! Writes a book of five items, one of them wrong, and the commands' weights; prints the refusal;
-//! repairs the item; forecasts the check and makes it; assembles the plan that undoes a run. With
-//! FOLDER, leaves there the book and the run as the program takes them (`book.bin`, `run.bin`), and
-//! the book before its repair (`wrong.bin`).
+//! Writes a book of five items, one of them wrong, and the commands' weights; prints the refusal; finds
+//! what the wrong item has to send, and repairs it; forecasts the check and makes it; assembles the
+//! plan that undoes a run. With FOLDER, leaves there the book and the run as the program takes them
+//! (`book.bin`, `run.bin`), and the book before its repair (`wrong.bin`).
 //!
 //! A state is channel + 4 × power + 16 × mode, each 0 to 3; the modes are standby, relay, beacon,
 //! locked. docs/FORMAT.md has the sixteen commands.
@@ -107,8 +107,16 @@ fn main() -> Result<(), Box<dyn Error>> {
     }
     println!("  In relay a channel command may not take: after 1 the repeater may still be on 2.");
 
-    items[2].0.reverse = &[8, 1, 9];
-    println!("Repaired: to standby, where a channel command takes, and back to relay");
+    // Finding takes a book whose items are all accepted: this one without item 2.
+    let others = book(&[items[0], items[1], items[3], items[4]])?;
+    let Item {
+        forward, phi, psi, ..
+    } = items[2].0;
+    let found = rollback::find(&others, forward, phi, psi)?;
+    println!("Found, in the book without item 2: send {found}, the shortest reverse");
+    println!("  To standby, where a channel command takes, and back to relay.");
+    items[2].0 = found.item();
+    println!("Repaired:");
     print_item(2, &items[2]);
     let repaired = book(&items)?;
     let (sent, sightings) = ([9, 14, 2], [1 << 1, ALL, ALL, ALL]);

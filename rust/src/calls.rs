@@ -34,6 +34,8 @@ pub const BOOK_LEN: usize = 31_178;
 pub const RUN_LEN: usize = 301;
 /// Points of the largest run.
 pub const POINTS_LEN: usize = 33;
+/// Commands of the longest reverse that finding gives.
+pub const FOUND_LEN: usize = 3;
 
 /// What reading answers.
 #[repr(C)]
@@ -83,6 +85,20 @@ pub struct Forecasted {
     pub plan_bytes: u64,
     /// No plan for a run of i commands has more legs.
     pub legs: u64,
+}
+
+/// What finding answers.
+#[repr(C)]
+#[derive(Clone, Copy, Debug, PartialEq, Eq)]
+pub struct Found {
+    /// 0, or why there is no reverse.
+    pub code: u64,
+    /// Where.
+    pub place: u64,
+    /// Commands in the reverse.
+    pub count: u64,
+    /// The commands, in order. Those not used are 0, all of them on a refusal.
+    pub commands: [u8; FOUND_LEN],
 }
 
 /// What assembling answers.
@@ -162,7 +178,7 @@ pub struct Leg {
 /// The archive's names, as in `include/rollback.h`.
 #[rustfmt::skip]
 mod sys {
-    use super::{Assembly, Checking, Forecasted, Leg, Lookup, Paged, Reading, Writing};
+    use super::{Assembly, Checking, Forecasted, Found, Leg, Lookup, Paged, Reading, Writing};
 
     extern "C" {
         pub fn rollback_read(
@@ -178,6 +194,12 @@ mod sys {
             weights: *mut u16, weights_len: usize,
         ) -> Checking;
         pub fn rollback_forecast(book: *const u8, book_len: usize, i: u64) -> Forecasted;
+        pub fn rollback_find(
+            book: *const u8, book_len: usize,
+            forward: *const u8, forward_len: usize,
+            phi: u64, psi: u64,
+            table: *mut u64, table_len: usize,
+        ) -> Found;
         pub fn rollback_assemble(
             book: *const u8, book_len: usize,
             run: *const u8, run_len: usize,
@@ -262,6 +284,21 @@ pub fn check(book: &[u8], table: &mut [u64], slots: &mut [u8], weights: &mut [u1
 #[must_use]
 pub fn forecast(book: &[u8], i: u64) -> Forecasted {
     unsafe { sys::rollback_forecast(book.as_ptr(), book.len(), i) }
+}
+
+/// Checks a book and finds the reverse of at most 3 commands for an item with these forward commands
+/// and masks. Codes 0 to 8, 12 to 15.
+#[must_use]
+#[rustfmt::skip]
+pub fn find(book: &[u8], forward: &[u8], phi: u64, psi: u64, table: &mut [u64]) -> Found {
+    unsafe {
+        sys::rollback_find(
+            book.as_ptr(), book.len(),
+            forward.as_ptr(), forward.len(),
+            phi, psi,
+            table.as_mut_ptr(), table.len(),
+        )
+    }
 }
 
 /// Checks a book and assembles the plan that undoes a run, its legs as bytes. Codes 0 to 13.

@@ -4,7 +4,8 @@ use core::fmt;
 use crate::calls::POINTS_LEN;
 use crate::{record_at, Record, NONE};
 
-/// Why a book, a run or a forecast was refused: a variant for each code, in order, from 1 to 13.
+/// Why a book, a run, a forecast or a reverse was refused: a variant for each code, in order, from 1 to
+/// 15.
 ///
 /// Printed, it says where and what: `item 1 (record at 129): a field is outside its range (code 5)`.
 #[derive(Clone, Copy, Debug, PartialEq, Eq)]
@@ -40,6 +41,10 @@ pub enum Fault {
     NotEffective(Record),
     /// 13: a weights record in which every weight is 1.
     AllOnes(Record),
+    /// 14: forward commands or masks that no item may hold.
+    ItemFields,
+    /// 15: no reverse of at most 3 commands makes an accepted item.
+    NoReverse,
     /// A code that this crate doesn't know: the archive is another version's.
     Unknown {
         /// The code.
@@ -69,6 +74,8 @@ impl Fault {
             11 => Fault::NoChain { fewest },
             12 => Fault::NotEffective(record()),
             13 => Fault::AllOnes(record()),
+            14 => Fault::ItemFields,
+            15 => Fault::NoReverse,
             _ => Fault::Unknown { code, place },
         }
     }
@@ -90,6 +97,8 @@ impl Fault {
             Fault::NoChain { .. } => 11,
             Fault::NotEffective(_) => 12,
             Fault::AllOnes(_) => 13,
+            Fault::ItemFields => 14,
+            Fault::NoReverse => 15,
             Fault::Unknown { code, .. } => code,
         }
     }
@@ -140,6 +149,10 @@ impl fmt::Display for Fault {
                 "the item can never be used: its forward commands lead from no start in psi to an end in phi"
             }
             Fault::AllOnes(_) => "every weight is 1, as without this record: leave it out",
+            Fault::ItemFields => {
+                "an item has 1 to 8 forward commands, and only commands and states of its device"
+            }
+            Fault::NoReverse => "no reverse of at most 3 commands makes an accepted item",
             Fault::Unknown { .. } => "a code that this crate doesn't know",
         };
         write!(f, "{text} (code {})", self.code())?;

@@ -3,7 +3,8 @@
 //! A book holds a device's transition table, its commands' weights (the air time that each takes)
 //! and its items ("if these commands were sent, send those, provided the states before and after lie
 //! in these sets"). A run holds what was sent and heard. [`plan`] checks a book and assembles from
-//! its items the chain that undoes a run with the least sum of weights.
+//! its items the chain that undoes a run with the least sum of weights. [`find`] gives the shortest
+//! reverse for an item whose other parts are known.
 //!
 //! All judging and planning is done by `libplanner.a`, whose answers are proved; this crate lends it
 //! buffers and gives its answers types. [`calls`] has the calls themselves, of numbers and slices.
@@ -12,13 +13,17 @@
 //! bytes of books and runs.
 //!
 //! Without the default feature `std` the crate needs `core` alone, and has [`calls`], [`forecast`],
-//! [`plan_small`], [`Fault`], [`WriteFault`], [`record_at`], [`ridge`] and [`portable`].
+//! [`find_in`], [`Reverse`], [`plan_small`], [`Item`], [`Fault`], [`WriteFault`], [`record_at`],
+//! [`ridge`] and [`portable`].
 //!
 //! ```
 //! // A switch: command 0 turns it off, command 1 on. "Off" undoes "on" if it was off before.
 //! let outcomes = [0b01, 0b10, 0b01, 0b10];
 //! let item = rollback::Item { forward: &[1], reverse: &[0], phi: 0b11, psi: 0b01 };
 //! let book = rollback::write(2, 2, &outcomes, &[item], &[5, 3])?;
+//!
+//! // The item's reverse can be found too.
+//! assert_eq!(rollback::find(&book, item.forward, item.phi, item.psi)?.item(), item);
 //!
 //! // It was seen off, then command 1 was sent, then nothing was heard.
 //! let run = rollback::run(&[1], &[0b01, 0b11])?;
@@ -33,8 +38,11 @@
 //! assert!(matches!(rollback::plan(&book, &run), Err(rollback::Fault::NoChain { .. })));
 //! # Ok::<(), Box<dyn std::error::Error>>(())
 //! ```
-// There is no `plan` to link to then.
-#![cfg_attr(not(feature = "std"), doc = "\n[`plan`]: plan_small")]
+// There is no `plan` and no `find` to link to then.
+#![cfg_attr(
+    not(feature = "std"),
+    doc = "\n[`plan`]: plan_small\n[`find`]: find_in"
+)]
 #![no_std]
 #![deny(missing_docs)]
 #![deny(unsafe_code)]
@@ -48,7 +56,9 @@ extern crate std;
 mod book;
 pub mod calls;
 mod fault;
+mod find;
 mod forecast;
+mod item;
 mod lines;
 #[cfg(feature = "std")]
 mod plan;
@@ -56,10 +66,14 @@ mod record;
 mod small;
 
 #[cfg(feature = "std")]
-pub use book::{write, Book, CheckedBook, Item};
+pub use book::{write, Book, CheckedBook};
 pub use calls::Leg;
 pub use fault::{Fault, WriteFault};
+#[cfg(feature = "std")]
+pub use find::find;
+pub use find::{find_in, Reverse};
 pub use forecast::{forecast, Forecast};
+pub use item::Item;
 #[cfg(feature = "std")]
 pub use plan::{plan, run, Plan};
 pub use record::{record_at, Kind, Record};
@@ -77,7 +91,7 @@ pub const NONE: u32 = 4_294_967_295;
 /// ```
 #[must_use]
 pub fn ridge(state: u64, command: u64) -> Option<u64> {
-    found(calls::ridge(state, command))
+    mask_of(calls::ridge(state, command))
 }
 
 /// The outcomes of a command of the portable relay in a state. None for a state over 31 or a
@@ -90,10 +104,10 @@ pub fn ridge(state: u64, command: u64) -> Option<u64> {
 /// ```
 #[must_use]
 pub fn portable(state: u64, command: u64) -> Option<u64> {
-    found(calls::portable(state, command))
+    mask_of(calls::portable(state, command))
 }
 
-fn found(r: calls::Lookup) -> Option<u64> {
+fn mask_of(r: calls::Lookup) -> Option<u64> {
     (r.code == 0).then_some(r.mask)
 }
 

@@ -3,15 +3,19 @@ use core::fmt;
 use crate::calls::Leg;
 
 /// Commands in a row, or `nothing`.
-fn row(f: &mut fmt::Formatter<'_>, commands: &[u8]) -> fmt::Result {
-    for command in commands {
-        write!(f, " {command}")?;
+pub(crate) struct Row<'a>(pub(crate) &'a [u8]);
+
+impl fmt::Display for Row<'_> {
+    fn fmt(&self, f: &mut fmt::Formatter<'_>) -> fmt::Result {
+        let Some((first, rest)) = self.0.split_first() else {
+            return f.write_str("nothing");
+        };
+        write!(f, "{first}")?;
+        for command in rest {
+            write!(f, " {command}")?;
+        }
+        Ok(())
     }
-    f.write_str(if commands.is_empty() {
-        " nothing\n"
-    } else {
-        "\n"
-    })
 }
 
 /// A plan as lines: what to send, then the legs with their commands.
@@ -20,11 +24,13 @@ pub(crate) fn lines<'a>(
     commands: &[u8],
     steps: impl Iterator<Item = (Leg, &'a [u8])>,
 ) -> fmt::Result {
-    write!(f, "send")?;
-    row(f, commands)?;
+    writeln!(f, "send {}", Row(commands))?;
     for (Leg { item, upper, lower }, commands) in steps {
-        write!(f, "item {item} from point {upper} to {lower}:")?;
-        row(f, commands)?;
+        writeln!(
+            f,
+            "item {item} from point {upper} to {lower}: {}",
+            Row(commands)
+        )?;
     }
     Ok(())
 }

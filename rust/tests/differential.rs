@@ -1,13 +1,18 @@
 //! The library against the plain program on random books and runs, valid and damaged: every result
-//! and every byte of every buffer. `ROLLBACK_SEED` is the first seed (0), `ROLLBACK_COUNT` the number of
-//! inputs (100,000).
+//! and every byte of every buffer. Finding a reverse has inputs of its own. `ROLLBACK_SEED` is the
+//! first seed (0), `ROLLBACK_COUNT` the number of inputs (100,000).
 
 use rollback::calls as verified;
-use rollback_cases::{answers, input, number_from_env, After, Input};
+use rollback_cases::device::{slot_bytes, Item};
+use rollback_cases::{
+    answers, answers_find, find_input, input, number_from_env, After, FindInput, Input,
+};
 use rollback_plain as plain;
 
 answers!(by_library, verified);
 answers!(by_plain_program, plain);
+answers_find!(found_by_library, verified);
+answers_find!(found_by_plain_program, plain);
 
 /// The same for assembling with a scratch.
 macro_rules! answers_small {
@@ -50,6 +55,14 @@ const CODES: [(&str, &[u64]); 10] = [
     ("portable", &[0, 5]),
     ("assemble_small", &ALL),
 ];
+
+/// How often each of these codes was met.
+fn shown(codes: &[u64], met: &[u64]) -> String {
+    let counts = codes
+        .iter()
+        .map(|&code| format!("{code}: {}", met[code as usize]));
+    counts.collect::<Vec<_>>().join(", ")
+}
 
 /// The units that checking made and the plan, against the forecast for runs as long as the one at hand.
 fn keeps_to_the_forecast(input: &Input, answers: &[After; 9]) {
@@ -173,16 +186,10 @@ fn the_library_answers_as_the_plain_program() {
         );
     }
 
-    let shown = |codes: &[u64], met: &[u64; ALL.len()]| {
-        let counts = codes
-            .iter()
-            .map(|&code| format!("{code}: {}", met[code as usize]));
-        counts.collect::<Vec<_>>().join(", ")
-    };
     for ((call, codes), met) in CODES.iter().zip(&met) {
         println!("{call}: codes {}", shown(codes, met));
     }
-    let total = std::array::from_fn(|code| met.iter().map(|met| met[code]).sum());
+    let total: [u64; ALL.len()] = std::array::from_fn(|code| met.iter().map(|met| met[code]).sum());
     println!(
         "{count} inputs, seeds {first} to {}: {compared} calls compared, {differ} differ; codes {}",
         first + count - 1,
@@ -194,5 +201,76 @@ fn the_library_answers_as_the_plain_program() {
             .iter()
             .find(|&&code| met[code as usize] == 0 && count >= 100_000);
         assert_eq!(missed, None, "{call} never met this code");
+    }
+}
+
+/// What was found, against checking: its codes and places for the book and its table; and the item that
+/// the reverse makes is accepted.
+fn keeps_to_checking(input: &FindInput, found: &After) {
+    let seed = input.seed;
+    let (code, place) = (found.result[0], found.result[1]);
+    let mut table = input.table.clone();
+    let (mut slots, mut weights) = ([0; verified::SLOTS_LEN], [0; verified::WEIGHTS_LEN]);
+    let checked = verified::check(&input.book, &mut table, &mut slots, &mut weights);
+    assert!(table == found.table, "seed {seed}");
+    if checked.code != 0 {
+        assert_eq!([code, place], [checked.code, checked.place], "seed {seed}");
+    }
+    if code != 0 {
+        assert_eq!(found.result[2..], [0; 4], "seed {seed}");
+        return;
+    }
+    let reverse = found.result[3..].iter().map(|&command| command as u8);
+    let item = Item {
+        forward: input.forward.clone(),
+        reverse: reverse.take(found.result[2] as usize).collect(),
+        phi: input.phi,
+        psi: input.psi,
+    };
+    slots[..verified::SLOT_LEN].copy_from_slice(&slot_bytes(&item));
+    let mut book = [0; verified::OUT_LEN];
+    let (n, m) = (checked.n, checked.m);
+    let w = verified::write(n, m, 1, &table, &slots, &weights, &mut book);
+    let book = &book[..w.length as usize];
+    let made = verified::check(book, &mut table, &mut slots, &mut weights);
+    assert_eq!([made.code, made.items], [0, 1], "seed {seed}");
+}
+
+#[test]
+fn the_library_finds_as_the_plain_program() {
+    const CODES: [u64; 13] = [0, 1, 2, 3, 4, 5, 6, 7, 8, 12, 13, 14, 15];
+    let first = number_from_env("ROLLBACK_SEED", 0);
+    let count = number_from_env("ROLLBACK_COUNT", 100_000);
+    let mut differ = 0;
+    let (mut met, mut lengths) = ([0; 16], [0; 4]);
+    for seed in first..first + count {
+        let given = find_input(seed);
+        let before = given.clone();
+        let (library, plain) = (found_by_library(&given), found_by_plain_program(&given));
+        let differences = library.against(&plain);
+        for difference in differences.iter().filter(|_| differ < 20) {
+            println!("seed {seed}, find: {difference}");
+        }
+        differ += u64::from(!differences.is_empty());
+        met[plain.result[0] as usize] += 1;
+        if plain.result[0] == 0 {
+            lengths[plain.result[2] as usize] += 1;
+        }
+        keeps_to_checking(&given, &library);
+        assert!(
+            given == before,
+            "seed {seed}: find changed what it only reads"
+        );
+    }
+    println!("find: codes {}", shown(&CODES, &met));
+    println!(
+        "find: {count} inputs, seeds {first} to {}: {differ} differ; reverses of 0, 1, 2 and 3 commands: {lengths:?}",
+        first + count - 1
+    );
+    assert_eq!(differ, 0);
+    if count >= 100_000 {
+        assert!(lengths.iter().all(|&found| found > 0), "{lengths:?}");
+        let missed = CODES.iter().find(|&&code| met[code as usize] == 0);
+        assert_eq!(missed, None, "find never met this code");
     }
 }

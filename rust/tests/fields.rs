@@ -2,7 +2,9 @@
 //! a book that is accepted are all different, and a refusal has another code than place.
 //! `c/header.c` does the same in C.
 
-use rollback::calls::{self, Assembly, Checking, Forecasted, Leg, Lookup, Paged, Reading, Writing};
+use rollback::calls::{
+    self, Assembly, Checking, Forecasted, Found, Leg, Lookup, Paged, Reading, Writing,
+};
 use rollback::NONE;
 use rollback_cases::device::{book_bytes, run_bytes, Device, Item};
 
@@ -172,6 +174,28 @@ fn of_a_forecast() {
         calls::forecast(&no_reading(), 9),
         [5, REFUSED_READING, 0, 0, 0],
     );
+}
+
+/// Four states with one move each: command 0 leads from state 0 to 3, and 4, 1 and 2 lead from there
+/// back to 0, by 2 and 1.
+fn around() -> Vec<u8> {
+    let mut device = Device::empty(4, 5);
+    for (state, command, to) in [(0, 0, 3), (3, 4, 2), (2, 1, 1), (1, 2, 0)] {
+        device.set(state, command, 1 << to);
+    }
+    book_bytes(&device, &[])
+}
+
+#[test]
+fn of_finding() {
+    let find = |book: &[u8]| calls::find(book, &[0], 15, 15, &mut [0; calls::TABLE_LEN]);
+    let is = |r: Found, expected: [u64; 3], commands: [u8; 3]| {
+        assert_eq!([r.code, r.place, r.count], expected);
+        assert_eq!(r.commands, commands);
+    };
+    let book = around();
+    is(find(&book), [0, 0, 3], [4, 1, 2]);
+    is(find(&book[..book.len() - 1]), [2, 48, 0], [0; 3]);
 }
 
 #[test]

@@ -3,12 +3,12 @@
 use core::mem::{align_of, offset_of, size_of};
 
 use rollback::calls::{
-    self, Assembly, Checking, Forecasted, Leg, Lookup, Paged, Reading, Writing, POINTS_LEN,
+    self, Assembly, Checking, Forecasted, Found, Leg, Lookup, Paged, Reading, Writing, POINTS_LEN,
 };
-use rollback::{record_at, Book, Fault, Forecast, Item, Kind, WriteFault, NONE};
+use rollback::{record_at, Book, Fault, Forecast, Item, Kind, Reverse, WriteFault, NONE};
 use rollback_cases::{
-    assemble_cases, book_cases, forecast_cases, largest_book, page_cases, q5_run, q_book,
-    small_cases,
+    assemble_cases, book_cases, find_cases, forecast_cases, largest_book, page_cases, q5_run,
+    q_book, small_cases,
 };
 
 fn code_and_place(fault: &Fault) -> [u64; 2] {
@@ -167,6 +167,49 @@ fn forecasts() {
     }
 }
 
+#[test]
+fn reverses_of_the_cases() {
+    for (number, case) in find_cases().iter().enumerate() {
+        // Here the table is never short.
+        if case.code == 1 {
+            continue;
+        }
+        let found = rollback::find(&case.book, &case.forward, case.phi, case.psi);
+        match &found {
+            Ok(found) => {
+                assert_eq!(case.code, 0, "case {number}");
+                let expected = &case.commands[..case.count as usize];
+                assert_eq!(found.commands(), expected, "case {number}");
+                let item = Item {
+                    forward: &case.forward,
+                    reverse: expected,
+                    phi: case.phi,
+                    psi: case.psi,
+                };
+                assert_eq!(found.item(), item, "case {number}");
+            }
+            Err(fault) => {
+                assert_eq!(
+                    code_and_place(fault),
+                    [case.code, case.place],
+                    "case {number}"
+                );
+            }
+        }
+        let mut table = [0; calls::TABLE_LEN];
+        let (book, forward) = (&case.book, &case.forward);
+        let lent = rollback::find_in(book, forward, case.phi, case.psi, &mut table);
+        assert_eq!(lent, found, "case {number}");
+        if let Ok(book) = Book::check(&case.book) {
+            assert_eq!(
+                book.find(forward, case.phi, case.psi),
+                found,
+                "case {number}"
+            );
+        }
+    }
+}
+
 /// Q's items have 3 × 3, 1 × 2, 3 × 3, 1 × 1 and 3 × 2 units.
 #[test]
 fn units() {
@@ -199,6 +242,95 @@ fn units() {
     book[217] = 6;
     assert_eq!(made(&book), [12, 201, 9 + 2 + 9 + 1 + 4]);
     assert_eq!(made(&book[..224]), [2, 201, 0]);
+}
+
+/// What was found, or the code.
+fn said(found: &Result<Reverse, Fault>) -> String {
+    match found {
+        Ok(found) => found.to_string(),
+        Err(fault) => format!("code {}", fault.code()),
+    }
+}
+
+/// The ring: from each of 8 states command 0 leads to the next, command 1 to the next but one, so that
+/// three commands lead on by 3 to 6 states.
+#[test]
+fn reverses_in_the_ring() {
+    let outcomes: Vec<u64> = (0..16).map(|e| 1 << ((e / 2 + 1 + e % 2) % 8)).collect();
+    let item = Item {
+        forward: &[1, 1, 1, 1],
+        reverse: &[],
+        phi: 255,
+        psi: 255,
+    };
+    let ring = rollback::write(8, 2, &outcomes, &[], &[]).unwrap();
+    assert_eq!(ring.len(), 230);
+    // Weights don't count, and 64 items are no obstacle.
+    let weighed = rollback::write(8, 2, &outcomes, &[], &[1, 1000]).unwrap();
+    let full = rollback::write(8, 2, &outcomes, &[item; 64], &[]).unwrap();
+    let answers: [(&[u8], &str); 6] = [
+        (&[0], "code 15"),
+        (&[1], "1 1 1"),
+        (&[0, 1], "0 1 1"),
+        (&[0, 1, 1], "0 1"),
+        (&[1, 1, 1], "1"),
+        (&[1, 1, 1, 1], "nothing"),
+    ];
+    for (bytes, (forward, answer)) in [&ring, &weighed, &full]
+        .into_iter()
+        .flat_map(|bytes| answers.map(|answer| (bytes, answer)))
+    {
+        let found = rollback::find(bytes, forward, 255, 255);
+        assert_eq!(said(&found), answer);
+        assert_eq!(Book::check(bytes).unwrap().find(forward, 255, 255), found);
+        let mut table = [7; calls::TABLE_LEN];
+        let lent = rollback::find_in(bytes, forward, 255, 255, &mut table);
+        assert_eq!(lent, found);
+        assert_eq!(table[..16], outcomes);
+        assert_eq!(table[16..], [7; calls::TABLE_LEN - 16]);
+        if let Ok(found) = found {
+            let item = found.item();
+            assert_eq!((item.forward, item.phi, item.psi), (forward, 255, 255));
+            assert_eq!(item.reverse, found.commands());
+            let with = rollback::write(8, 2, &outcomes, &[item], &[]).unwrap();
+            assert!(Book::check(&with).is_ok());
+        }
+    }
+}
+
+/// Q's own items have the reverse that is found, but item 0, whose 1 0 is longer than 0.
+#[test]
+fn reverses_in_q() {
+    let q = q_book();
+    let book = Book::check(&q).unwrap();
+    for (number, item) in book.items().enumerate() {
+        let found = book.find(item.forward, item.phi, item.psi).unwrap();
+        let expected = if number == 0 { &[0] } else { item.reverse };
+        assert_eq!(found.commands(), expected, "item {number}");
+    }
+    let find = |forward, phi, psi| said(&rollback::find(&q, forward, phi, psi));
+    assert_eq!(find(&[2, 0, 0, 0, 0, 0, 0, 0], 7, 7), "nothing");
+    assert_eq!(find(&[1], 7, 3), "code 15");
+    assert_eq!(find(&[2, 2], 7, 7), "code 15");
+    assert_eq!(find(&[2], 0, 7), "code 15");
+    assert_eq!(find(&[2], 7, 0), "code 15");
+    assert_eq!(find(&[2], 8, 7), "code 14");
+    assert_eq!(find(&[2], 7, 8), "code 14");
+    assert_eq!(find(&[3], 7, 7), "code 14");
+    assert_eq!(find(&[], 7, 7), "code 14");
+    assert_eq!(find(&[0; 9], 7, 7), "code 14");
+
+    // The book's own faults come first. With the item of Q3, 2 / 2, the table is read.
+    let mut q3 = q.clone();
+    q3.extend([20, 0, 3, 0, 1, 1, 2, 2]);
+    q3.extend([7, 0, 0, 0, 0, 0, 0, 0].repeat(2));
+    let read = [1, 2, 6, 1, 2, 0, 1, 2, 0, 9];
+    for (bytes, head, after) in [(&q3[..], [8, 225], read), (&q[..224], [2, 201], [9; 10])] {
+        let mut table = [9; calls::TABLE_LEN];
+        let fault = rollback::find_in(bytes, &[3], 8, 7, &mut table).unwrap_err();
+        assert_eq!(code_and_place(&fault), head);
+        assert_eq!(table[..10], after);
+    }
 }
 
 #[test]
@@ -390,6 +522,19 @@ fn faults_have_words() {
         rollback::forecast(&q_book(), 33).unwrap_err().to_string(),
         words
     );
+    let sought = |forward| {
+        rollback::find(&q_book(), forward, 7, 7)
+            .unwrap_err()
+            .to_string()
+    };
+    assert_eq!(
+        sought(&[3]),
+        "an item has 1 to 8 forward commands, and only commands and states of its device (code 14)"
+    );
+    assert_eq!(
+        sought(&[1]),
+        "no reverse of at most 3 commands makes an accepted item (code 15)"
+    );
     assert_eq!(
         Fault::NoHistory.to_string(),
         "nothing that the device can do fits what was sent and heard (code 10)"
@@ -432,6 +577,9 @@ fn results_are_laid_out_as_in_the_header() {
     assert_eq!(offset_of!(Forecasted, units), 16);
     assert_eq!(offset_of!(Forecasted, plan_bytes), 24);
     assert_eq!(offset_of!(Forecasted, legs), 32);
+    assert_eq!(size_of::<Found>(), 32);
+    assert_eq!(offset_of!(Found, count), 16);
+    assert_eq!(offset_of!(Found, commands), 24);
     assert_eq!(size_of::<Assembly>(), 176);
     assert_eq!(offset_of!(Assembly, sum), 32);
     assert_eq!(offset_of!(Assembly, fewest), 40);

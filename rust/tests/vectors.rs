@@ -1,9 +1,10 @@
 //! The cases that a second program has answered, against the library.
 
 use rollback::calls::{self, Leg, Lookup};
-use rollback_cases::device::run_bytes;
+use rollback_cases::device::{run_bytes, slot_bytes, Item};
 use rollback_cases::{
-    assemble_cases, book_cases, forecast_cases, masks, page_cases, q_book, small_cases, write_cases,
+    assemble_cases, book_cases, find_cases, forecast_cases, masks, page_cases, q_book, small_cases,
+    write_cases,
 };
 
 const FILL: u8 = 0xA5;
@@ -69,6 +70,54 @@ fn forecasts() {
         );
     }
     println!("forecasts: {} cases", cases.len());
+    assert_eq!(cases.len(), 900);
+}
+
+#[test]
+fn reverses() {
+    let cases = find_cases();
+    for (number, case) in cases.iter().enumerate() {
+        let mut table = case.table.clone();
+        let r = calls::find(&case.book, &case.forward, case.phi, case.psi, &mut table);
+        assert_eq!(
+            [r.code, r.place, r.count],
+            [case.code, case.place, case.count],
+            "case {number}"
+        );
+        assert_eq!(r.commands, case.commands, "commands of case {number}");
+        assert_eq!(table[..16], case.table_after, "table of case {number}");
+
+        // The book's own codes and the table are checking's with the same table.
+        let mut table_after = case.table.clone();
+        let (mut slots, mut weights) = ([0; calls::SLOTS_LEN], [0; calls::WEIGHTS_LEN]);
+        let checked = calls::check(&case.book, &mut table_after, &mut slots, &mut weights);
+        if checked.code != 0 {
+            assert_eq!(
+                [r.code, r.place],
+                [checked.code, checked.place],
+                "case {number}"
+            );
+        }
+        assert!(table == table_after, "table of case {number}");
+
+        // What was found makes an accepted item.
+        if r.code == 0 {
+            let item = Item {
+                forward: case.forward.clone(),
+                reverse: r.commands[..r.count as usize].to_vec(),
+                phi: case.phi,
+                psi: case.psi,
+            };
+            slots[..calls::SLOT_LEN].copy_from_slice(&slot_bytes(&item));
+            let mut book = [0; calls::OUT_LEN];
+            let (n, m) = (checked.n, checked.m);
+            let w = calls::write(n, m, 1, &table, &slots, &weights, &mut book);
+            let book = &book[..w.length as usize];
+            let made = calls::check(book, &mut table, &mut slots, &mut weights);
+            assert_eq!([made.code, made.items], [0, 1], "case {number}");
+        }
+    }
+    println!("reverses: {} cases", cases.len());
     assert_eq!(cases.len(), 900);
 }
 
@@ -328,7 +377,7 @@ fn writing() {
     assert_eq!(cases.len(), 500);
 }
 
-fn finds(call: fn(u64, u64) -> Lookup, commands: u64, masks: &[u64]) {
+fn looks_up(call: fn(u64, u64) -> Lookup, commands: u64, masks: &[u64]) {
     for (entry, &mask) in (0..).zip(masks) {
         let r = call(entry / commands, entry % commands);
         assert_eq!([r.code, r.place, r.mask], [0, 0, mask], "entry {entry}");
@@ -338,10 +387,10 @@ fn finds(call: fn(u64, u64) -> Lookup, commands: u64, masks: &[u64]) {
 
 #[test]
 fn ridge() {
-    finds(calls::ridge, 16, &masks().ridge);
+    looks_up(calls::ridge, 16, &masks().ridge);
 }
 
 #[test]
 fn portable() {
-    finds(calls::portable, 12, &masks().portable);
+    looks_up(calls::portable, 12, &masks().portable);
 }

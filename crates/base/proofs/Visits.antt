@@ -74,7 +74,7 @@ low-bits n w l = rw (shl-one n l) (and-mask w n)
 pub low-all : (n w : ℕ) → 64 ≤ n → w < 2 ^ 64 → w ≡ w % 2 ^ n
 low-all n w l h = sym (mod-eq-of-lt (lt-of-lt-of-le h (pow-mono l)))
 
-member-low : (n w s : ℕ) → s < n → member (w % 2 ^ n) s ≡ member w s
+pub member-low : (n w s : ℕ) → s < n → member (w % 2 ^ n) s ≡ member w s
 unfolding member
 member-low n w s l =
     let j = n - suc s in

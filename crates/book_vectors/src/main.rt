@@ -3,13 +3,6 @@
 use checker::Checking;
 use reader::Reading;
 
-// The table before a call: entry + 1 at each entry.
-fn pattern_table(table: &mut [u64]) {
-    for i in 0..table.len() {
-        table[i] = i as u64 + 1;
-    }
-}
-
 // The slots before a call: the index mod 251 at each byte.
 fn pattern_slots(slots: &mut [u8]) {
     for i in 0..slots.len() {
@@ -35,14 +28,14 @@ fn print_checking(r: Checking) {
 }
 
 fn read_case(book: &[u8], table: &mut [u64], slots: &mut [u8], weights: &mut [u16]) {
-    pattern_table(table);
+    vectors::pattern(table);
     pattern_slots(slots);
     pattern_weights(weights);
     print_reading(reader::read(book, table, slots, weights));
 }
 
 fn check_case(book: &[u8], table: &mut [u64], slots: &mut [u8], weights: &mut [u16]) {
-    pattern_table(table);
+    vectors::pattern(table);
     pattern_slots(slots);
     pattern_weights(weights);
     print_checking(checker::check(book, table, slots, weights));

@@ -4,7 +4,7 @@ use mathlib.Core.Bool.{Bool, true, false, not}
 use mathlib.Core.List.{List, [], _∷_, foldl}
 use Prim.Native.Nat.{ℕ, suc, _+_, _-_, _/_, _%_, _^_, _≤_, _<_}
 use native.Mathlib.Omega.{arith}
-use borrow.Author.Tests.{lt-ltb, ne-eqb}
+use borrow.Author.Tests.{ne-eqb}
 use lib.Bits.{bitAnd}
 use lib.Dec.{eqb}
 use Rattle.base.specs.Tests.{pick, both, imp}
@@ -23,11 +23,17 @@ use Rattle.reversal.specs.Computed.Units.{startMade, startsMade, itemMade}
 use Rattle.reversal.proofs.Units.{start-all}
 use Rattle.states.specs.declared.StateSet.{StateSet}
 use Rattle.states.specs.StateSets.{setOf, afterIn}
-use Rattle.states.proofs.Laws.{after-limits}
+use Rattle.states.proofs.Laws.{after-limits, one-state}
 use Rattle.checker.specs.Contract.{backOf}
 use Rattle.checker.proofs.Laws.{back-arrives, back-wrong}
 
 -- ---- forward commands: those that are left lead on from the set to where all of them lead from the start
+
+-- the next one is sent
+pub reach-on : (d : Device) (c w w′ : ℕ) (cs : List ℕ) → d .n ≤ 64 → d .m ≤ 32 → w′ ≡ afterIn d c w → reach d w′ cs ≡ reach d w (c ∷ cs)
+unfolding reach
+reach-on d c w w′ cs hn hm q = ap (λ (v : ℕ). reach d v cs) (q ∙ after-limits d c w hn hm)
+
 module _ (d : Device) (S : ℕ) (forward : List ℕ) where
   -- the `left` commands that are the lowest bytes of `rest`
   abbrev pub Leading : ℕ → ℕ → ℕ → Type 0
@@ -35,14 +41,12 @@ module _ (d : Device) (S : ℕ) (forward : List ℕ) where
 
   pub reach-start : (none set : StateSet) (left rest : ℕ) → S < 64 → none ≡ setOf 0 → set ≡ setOf (added (none .mask) S) → bytesLe left rest ≡ forward
       → Leading (set .mask) left rest
-  unfolding added pick
-  reach-start none set left rest h z e q = rw (e, z, q, lt-ltb S 64 h)
+  reach-start none set left rest h z e q = rw q (ap (λ (w : ℕ). reach d w forward) (one-state S h z e))
 
   pub reach-next : (w w′ left left′ rest : ℕ) → d .n ≤ 64 → d .m ≤ 32 → left ≡ suc left′ → Leading w left rest → w′ ≡ afterIn d (rest % 256) w
       → Leading w′ left′ (rest / 256)
-  unfolding reach bytesLe
-  reach-next w w′ left left′ rest hn hm e h q =
-      ap (λ (v : ℕ). reach d v (bytesLe left′ (rest / 256))) (q ∙ after-limits d (rest % 256) w hn hm) ∙ (rw e at h)
+  unfolding bytesLe
+  reach-next w w′ left left′ rest hn hm e h q = reach-on d (rest % 256) w w′ (bytesLe left′ (rest / 256)) hn hm q ∙ (rw e at h)
 
   -- none is left
   pub reach-all : (w w′ left rest phi phi′ : ℕ) → left ≡ 0 → Leading w left rest → phi′ ≡ phi → w′ ≡ bitAnd w phi′ → w′ ≡ ends d forward phi S

@@ -35,6 +35,10 @@ use Rattle.forecast.proofs.Exactly.{forecasts}
 use Rattle.forecast.proofs.Unique.{zero↔ as forecast-zero↔, never, refused-zeros}
 use Rattle.forecast.proofs.Bounds.{units-bound, none-exceeds}
 use Rattle.forecast.proofs.forecast as forecast
+use Rattle.finder.specs.Contract.{FindAs}
+use Rattle.finder.proofs.Unique as finds
+use Rattle.finder.proofs.Cases.{q-found}
+use Rattle.finder.proofs.find as find
 use Rattle.writer.specs.declared.Writing.{Writing}
 use Rattle.writer.specs.Writes.{Writes}
 use Rattle.writer.specs.Contract.{WriteAs}
@@ -77,8 +81,8 @@ use Rattle.report.specs.Contract.{ReportAs}
 use Rattle.report.proofs.Exactly.{reports}
 use Rattle.report.proofs.report as report
 use Rattle.claims.specs.Always.{Always}
-use Rattle.claims.specs.Claims.{onRead, onCheck, onCheckTable, onForecast, onWrite, onAssemble, onSmall, onLegs, onLayOut, onLookup, onOutcomes, onReport, WellWritten, ReadClaims, ChecksWrong, CheckClaims, AsChecking, CheckTableClaims, ForecastNumbers, NoneExceeds, ForecastClaims, WriteClaims, AssembleClaims, SmallClaims, EqualForms, LegsClaims, AsAssembling, PaperClaims, LookupClaims, RuleClaims, ConstantTable, RidgeTable, PortableTable, ReportClaims, onVisit, onSent, VisitClaims}
-use Rattle.claims.specs.Worked.{ChecksWorked, TableWorked, ForecastsWorked, AssemblesWorked, SmallWorked, PaperWorked, ReadsWorked, WritesWorked}
+use Rattle.claims.specs.Claims.{onRead, onCheck, onCheckTable, onForecast, onFind, onWrite, onAssemble, onSmall, onLegs, onLayOut, onLookup, onOutcomes, onReport, WellWritten, ReadClaims, ChecksWrong, CheckClaims, AsChecking, CheckTableClaims, ForecastNumbers, NoneExceeds, ForecastClaims, FindsZero, FindsBarred, FindsNone, FoundCommands, FoundAsChecking, FindClaims, WriteClaims, AssembleClaims, SmallClaims, EqualForms, LegsClaims, AsAssembling, PaperClaims, LookupClaims, RuleClaims, ConstantTable, RidgeTable, PortableTable, ReportClaims, onVisit, onSent, VisitClaims}
+use Rattle.claims.specs.Worked.{ChecksWorked, TableWorked, ForecastsWorked, FindsWorked, AssemblesWorked, SmallWorked, PaperWorked, ReadsWorked, WritesWorked}
 use Rattle.claims.proofs.Weaker.{weaker}
 use Rattle.claims.proofs.RoundTrips.{read-back, write-back}
 use Rattle.claims.proofs.Foreseen.{units-foreseen}
@@ -154,6 +158,23 @@ module _ (ρ : Routine) where
             weaker forecast.ended ρ (onForecast ForecastAs) (onForecast ForecastNumbers)
             (λ κs a r e c. record { never = never (forecasts c); zeros = refused-zeros (forecasts c); at-most = units-bound (forecasts c) }) always;
         none-exceeds = weaker forecast.ended ρ (onForecast ForecastAs) (onForecast NoneExceeds) (λ κs a r e c. none-exceeds (forecasts c)) always;
+      }
+
+  pub find-claims : Always find.ended ρ (onFind FindAs) → FindClaims ρ
+  find-claims always =
+      record {
+        says = weaker find.ended ρ (onFind FindAs) _ (λ κs a r e c. c .says) always;
+        zero = weaker find.ended ρ (onFind FindAs) (onFind FindsZero) (λ κs a r e c. finds.zero↔ (c .bytes) (c .says)) always;
+        fourteen = weaker find.ended ρ (onFind FindAs) (onFind FindsBarred) (λ κs a r e c. finds.fourteen↔ (c .bytes) (c .says)) always;
+        fifteen = weaker find.ended ρ (onFind FindAs) (onFind FindsNone) (λ κs a r e c. finds.fifteen↔ (c .bytes) (c .says)) always;
+        commands =
+            weaker find.ended ρ (onFind FindAs) (onFind FoundCommands)
+            (λ κs a r e c.
+            let (few, unused, zeros) = finds.found-numbers (c .bytes) (c .says) in
+            record { at-most = few; first = finds.found-first (c .bytes) (c .says); unused = unused; refused = zeros }) always;
+        as-checking =
+            weaker find.ended ρ (onFind FindAs) (onFind FoundAsChecking)
+            (λ κs a r e c slots weights q l′ x long enough. finds.as-checked (c .bytes) (c .says) (checks-table x long enough)) always;
       }
 
   pub write-claims : Always write.ended ρ (onWrite WriteAs) → WriteClaims ρ
@@ -267,6 +288,16 @@ module _ (ρ : Routine) where
   pub forecast-worked : Always forecast.ended ρ (onForecast ForecastAs) → Always forecast.ended ρ (onForecast ForecastsWorked)
   forecast-worked =
       weaker forecast.ended ρ (onForecast ForecastAs) (onForecast ForecastsWorked) (λ κs a r e c answer foresees. foresees .result (forecasts c))
+
+  pub find-worked : Always find.ended ρ (onFind FindAs) → Always find.ended ρ (onFind FindsWorked)
+  find-worked =
+      weaker find.ended ρ (onFind FindAs) (onFind FindsWorked)
+      (λ κs a r e c.
+      record {
+        read = λ answer entry mask gives long. gives .result (c .says) long;
+        kept = λ answer keeps long. keeps .result (c .says) long;
+        short = q-found .short (c .says);
+      })
 
   pub assemble-worked : Always assemble.ended ρ (onAssemble (AssembleAs inBytes)) → Always assemble.ended ρ (onAssemble (AssemblesWorked inBytes))
   assemble-worked =

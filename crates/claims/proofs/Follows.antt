@@ -1,23 +1,27 @@
 -- What follows from the claims for whoever relies on them: each theorem needs a sentence of a claim that no other theorem needs. Assumes nothing.
 use mathlib.Core.Path.{_≡_, refl, sym, ap, _∙_, subst, subst⁻¹, subst₂}
 use mathlib.Core.Bool.{Bool, true, false}
-use mathlib.Core.Logic.{_⊎_}
-use mathlib.Core.List.{List, [], _∷_, map}
+use mathlib.Core.Logic.{_⊎_, inl, inr}
+use mathlib.Core.List.{List, [], _∷_, _++_, map, map-append, append-assoc, append-nil}
 use Prim.Native.Nat.{ℕ, suc, _+_, _*_, _/_, _%_, _≤_, _<_}
+use native.Mathlib.Nat.{min-le-left}
 use native.Mathlib.Decide.{decLt}
 use native.Mathlib.Omega.{arith}
 use prog.Routine.{Routine}
 use lib.Dec.{eqb}
-use lib.ListN.{length, getD, take}
+use lib.ListN.{length, getD, take, length-append, length-take}
 use lib.Seq.{ext-getD, getD-take}
 use Rattle.base.specs.Tests.{pick}
 use Rattle.base.specs.Sizes.{LongEnough}
 use Rattle.base.proofs.Lists.{each-at, stored}
-use Rattle.reversal.specs.Reversal.{Reverses}
+use Rattle.base.proofs.Parts.{each-append}
+use Rattle.base.proofs.Masks.{in-zero}
+use Rattle.reversal.specs.Device.{Device}
+use Rattle.reversal.specs.Reversal.{Item, AllowedItem, Reverses, Accepted}
 use Rattle.reversal.specs.Runs.{Run, last}
 use Rattle.reversal.specs.Chains.{item, legsOf, Undoes}
-use Rattle.book.specs.Book.{Book, deviceOf, itemsOf, itemsFor, AllowedBook, bytesOf, WellFormed}
-use Rattle.book.specs.Lent.{Lent, sizes}
+use Rattle.book.specs.Book.{Rec, Book, deviceOf, itemsOf, itemsFor, AllowedBook, frame, deviceRec, weightsRecs, moveRec, itemRec, recordsOf, framed, bytesOf, WellFormed}
+use Rattle.book.specs.Lent.{Lent, lent, sizes}
 use Rattle.book.specs.Example.{bookQ, bytesQ}
 use Rattle.reader.specs.declared.Reading.{Reading}
 use Rattle.reader.proofs.read as read
@@ -25,12 +29,15 @@ use Rattle.checker.specs.declared.Checking.{Checking}
 use Rattle.checker.specs.declared.Reason.{Reason}
 use Rattle.checker.specs.declared.Reason.the-variants.{NotEffective}
 use Rattle.checker.specs.Reasons.{codeOf, Due}
-use Rattle.checker.specs.Checks.{AcceptedBook, WrongFor}
+use Rattle.checker.specs.Checks.{AcceptedBook, WrongFor, Checks}
 use Rattle.checker.proofs.Cases.{accepted-Q}
 use Rattle.checker.proofs.check as check
 use Rattle.forecast.specs.declared.Forecasted.{Forecasted}
 use Rattle.forecast.specs.Forecasts.{Forecasts}
 use Rattle.forecast.proofs.forecast as forecast
+use Rattle.finder.specs.declared.Found.{Found}
+use Rattle.finder.specs.Finds.{Sought, sought, Makes, MayHold}
+use Rattle.finder.proofs.find as find
 use Rattle.writer.proofs.write as write
 use Rattle.assembly.specs.declared.Assembly.{Assembly}
 use Rattle.assembly.specs.Lent.{legsBytes, LegForm, inBytes, Room, AllLent, allSizes}
@@ -51,7 +58,7 @@ use Rattle.planner.proofs.rollback_assemble_legs as assemble-legs
 use Rattle.report.specs.Prints.{zeros, Prints, Reports}
 use Rattle.report.proofs.Exactly.{zeros-long}
 use Rattle.claims.specs.Always.{Always}
-use Rattle.claims.specs.Claims.{onRead, onCheck, onForecast, onWrite, onAssemble, onSmall, onLegs, ReadsZero, ChecksZero, ForecastsZero, WellWritten, ReadClaims, CheckClaims, ForecastClaims, WriteClaims, PlanUndoes, SmallUndoes, AssembleClaims, LegsClaims, SmallClaims, GivenBack, ChecksWrong, UnitsForeseen, ForecastNumbers, EqualForms, ConstantTable}
+use Rattle.claims.specs.Claims.{Find, onRead, onCheck, onForecast, onFind, onWrite, onAssemble, onSmall, onLegs, ReadsZero, ChecksZero, ForecastsZero, WellWritten, ReadClaims, CheckClaims, ForecastClaims, FindsZero, FindsBarred, FindsNone, FoundCommands, FoundAsChecking, withItem, FoundJoins, FindClaims, WriteClaims, PlanUndoes, SmallUndoes, AssembleClaims, LegsClaims, SmallClaims, GivenBack, ChecksWrong, UnitsForeseen, ForecastNumbers, EqualForms, ConstantTable}
 use Rattle.claims.proofs.Weaker.{weaker}
 
 formed-Q : WellFormed bytesQ
@@ -248,3 +255,112 @@ undoing-legs ρ c =
 pub undoing-small : (ρ : Routine) → SmallClaims ρ → Always assemble-small.ended ρ (onSmall SmallUndoes)
 undoing-small ρ c =
     weaker assemble-small.ended ρ (onSmall SmallDemand) (onSmall SmallUndoes) (λ κs a r e x z b u g. small-undoes x z g) (c .demand-three)
+
+-- ---- finding
+
+framed-append : (xs ys : List Rec) → framed (xs ++ ys) ≡ framed xs ++ framed ys
+framed-append [] ys = refl
+framed-append (r ∷ xs) ys = ap (λ (t : List ℕ). frame r ++ t) (framed-append xs ys) ∙ sym (append-assoc (frame r) (framed xs) (framed ys))
+
+-- the bytes of a book with one item more
+joined-bytes : (b : Book) (x : Item) → bytesOf (withItem b x) ≡ bytesOf b ++ frame (itemRec x)
+joined-bytes b x =
+    let items : map itemRec (itemsOf b ++ x ∷ []) ≡ map itemRec (itemsOf b) ++ itemRec x ∷ [] = map-append itemRec (itemsOf b) (x ∷ []) in
+    let records : recordsOf (withItem b x) ≡ recordsOf b ++ itemRec x ∷ []
+    = ap (λ (rs : List Rec). deviceRec (b .n) (b .m) ∷ (weightsRecs (b .weights) ++ (map moveRec (b .moves) ++ rs))) items
+    ∙ ap (λ (rs : List Rec). deviceRec (b .n) (b .m) ∷ rs)
+    (ap (λ (rs : List Rec). weightsRecs (b .weights) ++ rs) (sym (append-assoc (map moveRec (b .moves)) (map itemRec (itemsOf b)) (itemRec x ∷ [])))
+    ∙ sym (append-assoc (weightsRecs (b .weights)) (map moveRec (b .moves) ++ map itemRec (itemsOf b)) (itemRec x ∷ []))) in
+    ap framed records ∙ framed-append (recordsOf b) (itemRec x ∷ []) ∙ ap (λ (t : List ℕ). bytesOf b ++ t) (append-nil (frame (itemRec x)))
+
+-- an accepted item put behind those of an accepted book
+joins : {book : List ℕ} {b : Book} → AcceptedBook book b → length (itemsOf b) < 64 → (x : Item) → AllowedItem (deviceOf b) x → Accepted (deviceOf b) x
+    → AcceptedBook (book ++ frame (itemRec x)) (withItem b x)
+joins {book} {b} a few x allowed accepted =
+    record {
+      allowed =
+          record {
+            device = a .allowed .device;
+            weighed = a .allowed .weighed;
+            each-move = a .allowed .each-move;
+            rising = a .allowed .rising;
+            each-item = each-append (AllowedItem (deviceOf b)) (itemsOf b) (x ∷ []) (a .allowed .each-item) (allowed, tt);
+            few = omega (arith, length-append (itemsOf b) (x ∷ []), few);
+          };
+      bytes = joined-bytes b x ∙ ap (λ (s : List ℕ). s ++ frame (itemRec x)) (a .bytes);
+      accepted = each-append (Accepted (deviceOf b)) (itemsOf b) (x ∷ []) (a .accepted) (accepted, tt);
+    }
+
+pub found-joins : (ρ : Routine) → FindClaims ρ → Always find.ended ρ (onFind FoundJoins)
+found-joins ρ c =
+    weaker find.ended ρ (onFind FoundCommands) (onFind FoundJoins)
+    (λ κs a r e f z b accepted few. let k = f .first z b accepted .makes in joins accepted few _ (k .allowed) (k .accepted)) (c .commands)
+
+-- with an empty phi or psi an item may be held, and can never be used
+no-use : (d : Device) (q : Sought) (cs : List ℕ) → (q .phi ≡ 0) ⊎ (q .psi ≡ 0) → Makes d q cs → ⊥
+no-use d q cs (inl none) k = let (S, E, s, t, l) = k .accepted .effective in in-zero E (rw none at t)
+no-use d q cs (inr none) k = let (S, E, s, t, l) = k .accepted .effective in in-zero S (rw none at s)
+
+abbrev EmptyMask : Find
+EmptyMask book q table r table′ =
+    2048 ≤ length table → (b : Book) → AcceptedBook book b → MayHold (deviceOf b) q → (q .phi ≡ 0) ⊎ (q .psi ≡ 0) → r .code ≡ 15
+
+pub empty-mask : (ρ : Routine) → FindClaims ρ → Always find.ended ρ (onFind EmptyMask)
+empty-mask ρ c =
+    weaker find.ended ρ (onFind FindsNone) (onFind EmptyMask)
+    (λ κs a r e z long b accepted hold none. z .1 (long, (b, accepted, hold, λ cs k. no-use (deviceOf b) (sought _ _ _) cs none k))) (c .fifteen)
+
+-- over 8 forward commands are no item's
+abbrev TooMany : Find
+TooMany book q table r table′ = 2048 ≤ length table → (b : Book) → AcceptedBook book b → 8 < length (q .forward) → r .code ≡ 14
+
+pub nine-forward : (ρ : Routine) → FindClaims ρ → Always find.ended ρ (onFind TooMany)
+nine-forward ρ c =
+    weaker find.ended ρ (onFind FindsBarred) (onFind TooMany)
+    (λ κs a r e z long b accepted many. z .1 (long, (b, accepted, λ (cs, allowed). omega (arith, allowed .most)))) (c .fourteen)
+
+-- an item of the book has a reverse
+abbrev soughtBy : Item → Sought
+soughtBy x = sought (x .forward) (x .phi) (x .psi)
+
+abbrev OwnFound : Find
+OwnFound book q table r table′ =
+    2048 ≤ length table → (b : Book) → AcceptedBook book b → (i : ℕ) → i < length (itemsOf b) → length (item (itemsOf b) i .reverse) ≤ 3
+    → q ≡ soughtBy (item (itemsOf b) i) → r .code ≡ 0
+
+own-makes : {book : List ℕ} {b : Book} → AcceptedBook book b → (i : ℕ) → i < length (itemsOf b) → length (item (itemsOf b) i .reverse) ≤ 3
+    → Makes (deviceOf b) (soughtBy (item (itemsOf b) i)) (item (itemsOf b) i .reverse)
+own-makes {b = b} a i l few =
+    record {
+      short = few;
+      allowed = each-at (AllowedItem (deviceOf b)) (itemsOf b) (a .allowed .each-item) i _ l;
+      accepted = each-at (Accepted (deviceOf b)) (itemsOf b) (a .accepted) i _ l;
+    }
+
+pub own-found : (ρ : Routine) → FindClaims ρ → Always find.ended ρ (onFind OwnFound)
+own-found ρ c =
+    weaker find.ended ρ (onFind FindsZero) (onFind OwnFound)
+    (λ κs a r e z long b accepted i l few same. z .1 (long, (b, accepted, (item (itemsOf b) i .reverse, subst⁻¹ (λ (q : Sought). Makes (deviceOf b) q (item (itemsOf b) i .reverse)) same (own-makes accepted i l few)))))
+    (c .zero)
+
+-- what checking turns down with 8 is turned down so, at the same place
+abbrev TurnedDown : Find
+TurnedDown book q table r table′ =
+    (slots weights : List ℕ) (c : Checking) (l′ : Lent) → Checks book (lent table slots weights) c l′ → 2176 ≤ length slots → 32 ≤ length weights
+    → c .code ≡ 8 → (r .code ≡ 8) × (r .place ≡ c .place)
+
+pub turned-down : (ρ : Routine) → FindClaims ρ → Always find.ended ρ (onFind TurnedDown)
+turned-down ρ c =
+    weaker find.ended ρ (onFind FoundAsChecking) (onFind TurnedDown)
+    (λ κs a r e x slots weights k l′ y long enough eight.
+    let same = x slots weights k l′ y long enough .1 (λ z. omega (arith, z, eight)) in
+    (ap (λ (f : Found). f .code) same ∙ eight, ap (λ (f : Found). f .place) same)) (c .as-checking)
+
+-- on a refusal no command is given, and else at most 3
+pub refused-commands : {book : List ℕ} {q : Sought} {table : List ℕ} {r : Found} {table′ : List ℕ} → FoundCommands book q table r table′
+    → (r .code ≡ 0 → ⊥) → (i : ℕ) → getD (r .commands) i 0 ≡ 0
+refused-commands x n i = x .unused i (omega (arith, x .refused n))
+
+pub few-commands : {book : List ℕ} {q : Sought} {table : List ℕ} {r : Found} {table′ : List ℕ} → FoundCommands book q table r table′
+    → length (take (r .count) (r .commands)) ≤ 3
+few-commands {r = r} x = rw (length-take (r .count) (r .commands)) (omega (arith, min-le-left (r .count) (length (r .commands)), x .at-most))

@@ -1,7 +1,7 @@
 -- The claims. First the meaning, on values; then the public calls as compiled: what holds after every call, whatever it is passed; then that what 01
 -- says leaves one answer only, and the worked cases.
 use mathlib.Core.Path.{_≡_, refl, subst}
-use mathlib.Core.Logic.{_↔_}
+use mathlib.Core.Logic.{_⊎_, _↔_}
 use mathlib.Core.List.{List}
 use Prim.Native.Nat.{ℕ, _+_, _-_, _*_, _/_, _%_, _^_, _≤_, _<_, zero-le}
 use native.Mathlib.Omega.{arith}
@@ -64,7 +64,7 @@ use Rattle.reader.proofs.read.Symbol.{routine as read-routine}
 use Rattle.reader.proofs.read.Met.{met as read-met}
 use Rattle.checker.specs.declared.Checking.{Checking}
 use Rattle.checker.specs.declared.Reason.the-variants.{NotEffective}
-use Rattle.checker.specs.Checks.{WrongFor, Checks}
+use Rattle.checker.specs.Checks.{AcceptedBook, WrongFor, Checks}
 use Rattle.checker.specs.Cases.{QChecked, TablesChecked}
 use Rattle.checker.specs.declared.TableChecking.{TableChecking}
 use Rattle.checker.specs.TableChecks.{TableChecks}
@@ -88,6 +88,14 @@ use Rattle.forecast.proofs.Cases.{q-forecast}
 use Rattle.forecast.proofs.forecast as forecast
 use Rattle.forecast.proofs.forecast.Symbol.{routine as forecast-routine}
 use Rattle.forecast.proofs.forecast.Met.{met as forecast-met}
+use Rattle.finder.specs.declared.Found.{Found}
+use Rattle.finder.specs.Finds.{Sought, sought, FirstOf, MayHold, Finds}
+use Rattle.finder.specs.Cases.{RingFound, QFound}
+use Rattle.finder.proofs.Unique.{first-unique, finds-unique}
+use Rattle.finder.proofs.Cases.{ring-found, q-found}
+use Rattle.finder.proofs.find as find
+use Rattle.finder.proofs.find.Symbol.{routine as find-routine}
+use Rattle.finder.proofs.find.Met.{met as find-met}
 use Rattle.writer.specs.declared.Writing.{Writing}
 use Rattle.writer.specs.Writes.{Writes}
 use Rattle.writer.specs.Cases as write-example
@@ -167,6 +175,8 @@ use Rattle.planner.proofs.rollback_check.Symbol.{routine as exported-check-rout
 use Rattle.planner.proofs.rollback_check.Met.{met as exported-check-met}
 use Rattle.planner.proofs.rollback_forecast.Symbol.{routine as exported-forecast-routine}
 use Rattle.planner.proofs.rollback_forecast.Met.{met as exported-forecast-met}
+use Rattle.planner.proofs.rollback_find.Symbol.{routine as exported-find-routine}
+use Rattle.planner.proofs.rollback_find.Met.{met as exported-find-met}
 use Rattle.planner.proofs.rollback_write.Symbol.{routine as exported-write-routine}
 use Rattle.planner.proofs.rollback_write.Met.{met as exported-write-met}
 use Rattle.planner.proofs.rollback_assemble.Symbol.{routine as exported-assemble-routine}
@@ -191,12 +201,12 @@ use Rattle.report.specs.Edges as report-edges
 use Rattle.report.proofs.Edges as report-edge-cases
 use Rattle.report.proofs.report.Symbol.{routine as report-routine}
 use Rattle.report.proofs.report.Met.{met as report-met}
-use Rattle.claims.specs.Claims.{onRead, onCheck, onCheckTable, onForecast, onWrite, onAssemble, onSmall, onLegs, onLayOut, ReadClaims, UnitsForeseen, CheckClaims, CheckTableClaims, ForecastNumbers, ForecastClaims, WriteClaims, PlanUndoes, SmallUndoes, AssembleClaims, SmallClaims, EqualForms, LegsClaims, PaperClaims, LookupClaims, RuleClaims, ConstantTable, RidgeTable, PortableTable, VisitClaims, ReportClaims}
+use Rattle.claims.specs.Claims.{onRead, onCheck, onCheckTable, onForecast, onFind, onWrite, onAssemble, onSmall, onLegs, onLayOut, ReadClaims, UnitsForeseen, CheckClaims, CheckTableClaims, ForecastNumbers, ForecastClaims, FoundJoins, FindClaims, WriteClaims, PlanUndoes, SmallUndoes, AssembleClaims, SmallClaims, EqualForms, LegsClaims, PaperClaims, LookupClaims, RuleClaims, ConstantTable, RidgeTable, PortableTable, VisitClaims, ReportClaims}
 use Rattle.claims.specs.Always.{Always}
-use Rattle.claims.specs.Worked.{ChecksWorked, TableWorked, ForecastsWorked, AssemblesWorked, SmallWorked, PaperWorked, ReadsWorked, WritesWorked}
+use Rattle.claims.specs.Worked.{ChecksWorked, TableWorked, ForecastsWorked, FindsWorked, AssemblesWorked, SmallWorked, PaperWorked, ReadsWorked, WritesWorked}
 use Rattle.claims.proofs.Foreseen as foreseen
 use Rattle.claims.proofs.Follows as follows
-use Rattle.claims.proofs.Calls.{read-claims, check-claims, forecast-claims, write-claims, assemble-claims, small-claims, equal-claims, legs-claims, paper-claims, lookup-claims, rule-claims, ridge-table-claims, portable-table-claims, report-claims, check-worked, forecast-worked, assemble-worked, small-worked, legs-worked, paper-worked, check-table-claims, table-worked, visit-claims, read-worked, write-worked}
+use Rattle.claims.proofs.Calls.{read-claims, check-claims, forecast-claims, find-claims, write-claims, assemble-claims, small-claims, equal-claims, legs-claims, paper-claims, lookup-claims, rule-claims, ridge-table-claims, portable-table-claims, report-claims, check-worked, forecast-worked, find-worked, assemble-worked, small-worked, legs-worked, paper-worked, check-table-claims, table-worked, visit-claims, read-worked, write-worked}
 
 -- ---- the meaning
 
@@ -295,6 +305,13 @@ forecasting = forecast-claims forecast-routine (λ M. forecast-met)
 
 pub exported-forecasting : ForecastClaims exported-forecast-routine
 exported-forecasting = forecast-claims exported-forecast-routine (λ M. exported-forecast-met)
+
+-- the reverse for an item
+pub finding : FindClaims find-routine
+finding = find-claims find-routine (λ M. find-met)
+
+pub exported-finding : FindClaims exported-find-routine
+exported-finding = find-claims exported-find-routine (λ M. exported-find-met)
 
 pub writing : WriteClaims write-routine
 writing = write-claims write-routine (λ M. write-met)
@@ -410,6 +427,24 @@ plans-undo-legs = follows.undoing-legs assemble-legs-routine assembling-legs
 pub plans-undo-small : Always assemble-small.ended exported-small-routine (onSmall SmallUndoes)
 plans-undo-small = follows.undoing-small exported-small-routine exported-assembling-small
 
+-- the item that is found, put behind the book's items, gives an accepted book
+pub found-joins : Always find.ended exported-find-routine (onFind FoundJoins)
+found-joins = follows.found-joins exported-find-routine exported-finding
+
+-- with an empty phi or psi there is no reverse, and over 8 forward commands are no item's
+pub no-ends-none : Always find.ended exported-find-routine (onFind (λ book q table r table′. 2048 ≤ length table → (b : Book) → AcceptedBook book b
+    → MayHold (deviceOf b) q → (q .phi ≡ 0) ⊎ (q .psi ≡ 0) → r .code ≡ 15))
+no-ends-none = follows.empty-mask exported-find-routine exported-finding
+
+pub nine-barred : Always find.ended exported-find-routine (onFind (λ book q table r table′. 2048 ≤ length table → (b : Book) → AcceptedBook book b
+    → 8 < length (q .forward) → r .code ≡ 14))
+nine-barred = follows.nine-forward exported-find-routine exported-finding
+
+-- for an item of the book itself, of at most 3 reverse commands, some reverse is found
+pub own-found : Always find.ended exported-find-routine (onFind (λ book q table r table′. 2048 ≤ length table → (b : Book) → AcceptedBook book b
+    → (i : ℕ) → i < length (itemsOf b) → let x = item (itemsOf b) i in length (x .reverse) ≤ 3 → q ≡ sought (x .forward) (x .phi) (x .psi) → r .code ≡ 0))
+own-found = follows.own-found exported-find-routine exported-finding
+
 -- plan and legs of the two forms of assembling, each compiled routine's, are one function of what is lent
 pub equal-plans : (left : Asked → Room ℕ → Room ℕ)
     × Always assemble.ended assemble-routine (onAssemble (λ ask l r l′. LongEnough (allSizes inBytes l) → l′ .room ≡ left ask (l .room)))
@@ -477,6 +512,14 @@ only-checking-table h x y = table-checks-unique h x y
 
 pub only-forecast : {book : List ℕ} {i : ℕ} {r q : Forecasted} → Bytes book → Forecasts book i r → Forecasts book i q → r ≡ q
 only-forecast h x y = forecasts-unique h x y
+
+pub only-finding : {book : List ℕ} {q : Sought} {table : List ℕ} {r r′ : Found} {table′ table″ : List ℕ} → Bytes book → Finds book q table r table′
+    → Finds book q table r′ table″ → (r ≡ r′) × (table′ ≡ table″)
+only-finding h x y = finds-unique h x y
+
+-- one list of commands is the shortest and lowest
+pub only-first : {d : Device} {q : Sought} {cs ds : List ℕ} → FirstOf d q cs → FirstOf d q ds → cs ≡ ds
+only-first = first-unique
 
 pub only-writing : {n m items : ℕ} {l : Lent} {out : List ℕ} {r q : Writing} {o o′ : List ℕ} → Bytes (l .slots) → Writes n m items l out r o
     → Writes n m items l out q o′ → (r ≡ q) × (o ≡ o′)
@@ -561,6 +604,14 @@ case-tables = tables-checked
 pub case-forecast : QForecast
 case-forecast = q-forecast
 
+-- reverses found on a ring of eight states: the shortest, the lowest, none of at most 3 commands, the weights ignored; and in Q: two starts, items that
+-- are not effective, each limit of 14, and the codes before it
+pub case-ring : RingFound
+case-ring = ring-found
+
+pub case-found : QFound
+case-found = q-found
+
 pub runs-in-bytes : Runs inBytes
 runs-in-bytes = runs inBytes
 
@@ -629,6 +680,9 @@ worked-table = table-worked check-table-routine (λ M. check-table-met)
 
 pub worked-forecast : Always forecast.ended forecast-routine (onForecast ForecastsWorked)
 worked-forecast = forecast-worked forecast-routine (λ M. forecast-met)
+
+pub worked-finding : Always find.ended find-routine (onFind FindsWorked)
+worked-finding = find-worked find-routine (λ M. find-met)
 
 pub worked-assembling : Always assemble.ended assemble-routine (onAssemble (AssemblesWorked inBytes))
 worked-assembling = assemble-worked assemble-routine (λ M. assemble-met)

@@ -3,16 +3,17 @@
 use mathlib.Core.Path.{_≡_}
 use mathlib.Core.Bool.{Bool, true}
 use mathlib.Core.Logic.{_↔_}
-use mathlib.Core.List.{List}
+use mathlib.Core.List.{List, [], _∷_, _++_}
 use Prim.Native.Nat.{ℕ, _*_, _/_, _%_, _<_, _≤_}
 use prog.Routine.{Routine}
 use lib.ListN.{length, getD, take}
 use denote.Ref.{now}
 use Rattle.base.specs.Sizes.{LongEnough}
 use Rattle.reversal.specs.Device.{Device, entry}
+use Rattle.reversal.specs.Reversal.{Item}
 use Rattle.reversal.specs.Runs.{Run, last}
 use Rattle.reversal.specs.Chains.{Chain, planOf, Undoes}
-use Rattle.book.specs.Book.{Book, deviceOf, AllowedBook, bytesOf, WellFormed, itemsFor}
+use Rattle.book.specs.Book.{Book, deviceOf, AllowedBook, frame, itemRec, bytesOf, WellFormed, itemsOf, itemsFor}
 use Rattle.states.specs.declared.Visited.{Visited}
 use Rattle.states.specs.declared.Sent.{Sent}
 use Rattle.states.specs.Visits.{VisitsPresent, SendsToPresent}
@@ -33,6 +34,9 @@ use Rattle.checker.proofs.check_table as check-table
 use Rattle.forecast.specs.declared.Forecasted.{Forecasted}
 use Rattle.forecast.specs.Forecasts.{Forecasts}
 use Rattle.forecast.proofs.forecast as forecast
+use Rattle.finder.specs.declared.Found.{Found}
+use Rattle.finder.specs.Finds.{Sought, sought, itemOf, Makes, FirstOf, MayHold, refusal as not-found, Finds}
+use Rattle.finder.proofs.find as find
 use Rattle.writer.specs.declared.Writing.{Writing}
 use Rattle.writer.specs.Writes.{buffers, BookWritten, Writes}
 use Rattle.writer.proofs.write as write
@@ -92,6 +96,13 @@ Forecast = List ℕ → ℕ → Forecasted → Type 0
 
 abbrev pub onForecast : Forecast → After forecast.ended
 onForecast P κs (book, (i, _)) r e = P (now book) i r
+
+abbrev pub Find : Type 1
+Find = List ℕ → Sought → List ℕ → Found → List ℕ → Type 0
+
+abbrev pub onFind : Find → After find.ended
+onFind P κs (book, (forward, (phi, (psi, (table, _))))) r (_, (_, (_, (_, (table′, _))))) =
+    P (now book) (sought (now forward) phi psi) (now table) r (now table′)
 
 abbrev pub Write : Type 1
 Write = ℕ → ℕ → ℕ → Lent → List ℕ → Writing → List ℕ → Type 0
@@ -252,6 +263,56 @@ pub record ForecastClaims (ρ : Routine) : Type 2 where
   pub zero : Always forecast.ended ρ (onForecast ForecastsZero)
   pub numbers : Always forecast.ended ρ (onForecast ForecastNumbers)
   pub none-exceeds : Always forecast.ended ρ (onForecast NoneExceeds)
+
+-- finding answers 0 exactly where the table is long enough, the book is accepted and some reverse of at most 3 commands makes an accepted item
+abbrev pub FindsZero : Find
+FindsZero book q table r table′ =
+    (r .code ≡ 0) ↔ ((2048 ≤ length table) × ((b : Book) × AcceptedBook book b × ((cs : List ℕ) × Makes (deviceOf b) q cs)))
+
+-- 14 exactly where, after the book's own codes, no item may hold the forward commands and masks
+abbrev pub FindsBarred : Find
+FindsBarred book q table r table′ = (r .code ≡ 14) ↔ ((2048 ≤ length table) × ((b : Book) × AcceptedBook book b × (MayHold (deviceOf b) q → ⊥)))
+
+-- 02: "It is refused with 15 exactly when no other refusal is due and no reverse up to that length does so."
+abbrev pub FindsNone : Find
+FindsNone book q table r table′ =
+    (r .code ≡ 15)
+    ↔ ((2048 ≤ length table) × ((b : Book) × AcceptedBook book b × MayHold (deviceOf b) q × ((cs : List ℕ) → Makes (deviceOf b) q cs → ⊥)))
+
+-- 02: "the shortest, and among equals the one with lower commands first", of the commands answered; "commands unused in the answer are 0", and so on a
+-- refusal
+pub record FoundCommands (book : List ℕ) (q : Sought) (table : List ℕ) (r : Found) (table′ : List ℕ) : Type 0 where
+  pub at-most : r .count ≤ 3
+  pub first : r .code ≡ 0 → (b : Book) → AcceptedBook book b → FirstOf (deviceOf b) q (take (r .count) (r .commands))
+  pub unused : (i : ℕ) → r .count ≤ i → getD (r .commands) i 0 ≡ 0
+  pub refused : (r .code ≡ 0 → ⊥) → r .count ≡ 0
+
+-- 02: "The only buffer is a table, read as by checking, on 14 and 15 too": whatever checking gives for the same book and table, in slots and weights that
+-- are long enough; what it refuses is refused so
+abbrev pub FoundAsChecking : Find
+FoundAsChecking book q table r table′ =
+    (slots weights : List ℕ) (c : Checking) (l′ : Lent) → Checks book (lent table slots weights) c l′ → 2176 ≤ length slots → 32 ≤ length weights
+    → (table′ ≡ l′ .table) × ((c .code ≡ 0 → ⊥) → r ≡ not-found (c .code) (c .place))
+
+-- b with one item more, behind its others
+abbrev pub withItem : Book → Item → Book
+withItem b x = record { n = b .n; m = b .m; weights = b .weights; moves = b .moves; items = itemsOf b ++ x ∷ [] }
+
+-- the item that is made, put behind the book's items where these are fewer than 64, gives an accepted book. This follows from the claims.
+abbrev pub FoundJoins : Find
+FoundJoins book q table r table′ =
+    r .code ≡ 0 → (b : Book) → AcceptedBook book b → length (itemsOf b) < 64
+    → let x = itemOf q (take (r .count) (r .commands)) in AcceptedBook (book ++ frame (itemRec x)) (withItem b x)
+
+pub record FindClaims (ρ : Routine) : Type 2 where
+  -- 02: "Given a book, forward commands, phi and psi, find a reverse of at most 3 commands that makes an accepted item": 1, the book's codes, 8 and 12, 14
+  -- and 15 in their order, and the table
+  pub says : Always find.ended ρ (onFind Finds)
+  pub zero : Always find.ended ρ (onFind FindsZero)
+  pub fourteen : Always find.ended ρ (onFind FindsBarred)
+  pub fifteen : Always find.ended ρ (onFind FindsNone)
+  pub commands : Always find.ended ρ (onFind FoundCommands)
+  pub as-checking : Always find.ended ρ (onFind FoundAsChecking)
 
 -- writing answers 0 exactly where the buffers are long enough and table, slots and weights hold an allowed book
 abbrev pub WritesZero : Write

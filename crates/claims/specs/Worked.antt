@@ -1,6 +1,6 @@
 -- The worked cases, of a call: evidence beside the claims. Assumes nothing: these are definitions.
 use mathlib.Core.Path.{_≡_}
-use mathlib.Core.List.{List}
+use mathlib.Core.List.{List, [], _∷_}
 use Prim.Native.Nat.{ℕ, _≤_}
 use lib.ListN.{length, getD, replicate}
 use Rattle.base.specs.Lists.{Written}
@@ -16,6 +16,9 @@ use Rattle.checker.specs.declared.TableChecking.{TableChecking}
 use Rattle.checker.specs.Cases.{Judges, TableGives, TableKept}
 use Rattle.forecast.specs.declared.Forecasted.{Forecasted}
 use Rattle.forecast.specs.Cases.{Foresees}
+use Rattle.finder.specs.declared.Found.{Found}
+use Rattle.finder.specs.Finds.{Sought}
+use Rattle.finder.specs.Cases.{reply, Gives, Keeps}
 use Rattle.writer.specs.declared.Writing.{Writing}
 use Rattle.writer.specs.Cases.{zeros}
 use Rattle.writer.specs.Edges.{RefusedWith, WritesTo}
@@ -53,6 +56,12 @@ pub record TableWorked (book table : List ℕ) (r : TableChecking) (table′ : L
 -- those of forecast/specs/Cases
 abbrev pub ForecastsWorked : Forecast
 ForecastsWorked book i r = (answer : Forecasted) → Foresees book i answer → r ≡ answer
+
+-- those of finder/specs/Cases
+pub record FindsWorked (book : List ℕ) (q : Sought) (table : List ℕ) (r : Found) (table′ : List ℕ) : Type 0 where
+  pub read : (answer : Found) (entry mask : ℕ) → Gives book q answer entry mask → 2048 ≤ length table → (r ≡ answer) × (getD table′ entry 0 ≡ mask)
+  pub kept : (answer : Found) → Keeps book q answer → 2048 ≤ length table → (r ≡ answer) × (table′ ≡ table)
+  pub short : length table ≡ 2047 → (r ≡ reply 1 0 0 (0 ∷ 0 ∷ 0 ∷ [])) × (table′ ≡ table)
 
 -- the runs of the joint table, those with weights, and the books that are refused
 pub record AssemblesWorked {E : Type 0} (form : LegForm E) (ask : Asked) (l : AllLent E) (r : Assembly) (l′ : AllLent E) : Type 0 where

@@ -2,6 +2,7 @@
 // on to.
 use assembly::Assembly;
 use checker::Checking;
+use finder::Found;
 use forecast::Forecasted;
 use lookups::LookupResult;
 use paper::Paged;
@@ -15,6 +16,8 @@ ghost use Rattle.book.specs.Lent.{lent};
 ghost use Rattle.reader.specs.Contract.{ReadAs};
 ghost use Rattle.checker.specs.Contract.{CheckAs};
 ghost use Rattle.forecast.specs.Contract.{ForecastAs};
+ghost use Rattle.finder.specs.Finds.{sought};
+ghost use Rattle.finder.specs.Contract.{FindAs};
 ghost use Rattle.writer.specs.Contract.{WriteAs};
 ghost use Rattle.assembly.specs.Asked.{asked};
 ghost use Rattle.assembly.specs.Contract.{AssembleAs, SmallAs};
@@ -56,6 +59,19 @@ pub extern "C" fn rollback_forecast(book: &[u8], i: u64) -> Forecasted
     ensures { λ r. ⌜ ForecastAs (now (book .entry)) i r ⌝ }
 {
     forecast::forecast(book, i)
+}
+
+#[no_mangle]
+pub extern "C" fn rollback_find(
+    book: &[u8],
+    forward: &[u8],
+    phi: u64,
+    psi: u64,
+    table: &mut [u64],
+) -> Found
+    ensures { λ r. ⌜ FindAs (now (book .entry)) (sought (now (forward .entry)) phi psi) (now (table .entry)) r (now (table .exit)) ⌝ }
+{
+    finder::find(book, forward, phi, psi, table)
 }
 
 #[no_mangle]

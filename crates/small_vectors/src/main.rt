@@ -3,13 +3,6 @@
 // A case is a byte that says how buffers are lent; the book's length and the run's, two bytes each; the book; the run.
 use assembly::Assembly;
 
-// The scratch before a call: entry + 1 at each entry.
-fn pattern_scratch(scratch: &mut [u64]) {
-    for i in 0..scratch.len() {
-        scratch[i] = i as u64 + 1;
-    }
-}
-
 // The scratch's entries that are printed.
 fn shown(code: u64) -> usize {
     if code == 1 { 8 } else { 0 }
@@ -44,7 +37,7 @@ fn run_case(kind: u64, book: &[u8], run: &[u8]) {
     let mut scratch = [0u64; 69];
     let mut plan = [0u8; 261];
     let mut legs = [0u8; 101];
-    pattern_scratch(&mut scratch);
+    vectors::pattern(&mut scratch);
     lend(kind, book, run, &mut scratch, &mut plan, &mut legs);
 }
 

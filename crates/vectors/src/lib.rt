@@ -1,8 +1,9 @@
-// What the test programs that run vector files share: a file of cases, parts of a file, lengths, and rows of numbers on standard output.
+// What the test programs that run vector files share: a file of cases, parts of a file, lengths, what a table holds before a call, and rows of numbers on
+// standard output.
 use libc::STDOUT_FILENO;
 ghost use mathlib.Core.Path.{_≡_};
-ghost use Prim.Native.Nat.{_*_, _<_, _≤_, min};
-ghost use lib.ListN.{length, take, drop};
+ghost use Prim.Native.Nat.{ℕ, _+_, _*_, _<_, _≤_, min};
+ghost use lib.ListN.{length, getD, take, drop};
 ghost use Rattle.io.specs.Counts.{Counts};
 
 fn least(a: usize, b: usize) -> usize
@@ -104,6 +105,16 @@ pub fn size(whole: usize, kind: u64, short: u64, longer: u64) -> usize
         return 0;
     }
     if kind == short { whole - 6 } else { whole - 5 }
+}
+
+// A table or a scratch before a call: entry + 1 at each entry.
+pub fn pattern(masks: &mut [u64])
+    ensures { λ _. ⌜ (length (now (masks .exit)) ≡ length (now (masks .entry)))
+        × ((i : ℕ) → i < length (now (masks .entry)) → getD (now (masks .exit)) i 0 ≡ i + 1) ⌝ }
+{
+    for i in 0..masks.len() {
+        masks[i] = i as u64 + 1;
+    }
 }
 
 // The bytes that so many legs take, at most 96.

@@ -55,7 +55,8 @@ impl After {
     }
 }
 
-/// A function that makes all calls of a program on one input, but not assembling with a scratch.
+/// A function that makes all calls of a program on one input, but neither assembling with a scratch
+/// nor finding a reverse.
 #[macro_export]
 macro_rules! answers {
     ($name:ident, $program:ident) => {
@@ -145,6 +146,25 @@ macro_rules! answers {
                 ridge,
                 portable,
             ]
+        }
+    };
+}
+
+/// A function that finds a reverse by a program.
+#[macro_export]
+macro_rules! answers_find {
+    ($name:ident, $program:ident) => {
+        fn $name(input: &$crate::FindInput) -> $crate::After {
+            let mut a = $crate::After {
+                call: "find",
+                table: input.table.clone(),
+                ..$crate::After::default()
+            };
+            let (book, forward) = (&input.book, &input.forward);
+            let r = $program::find(book, forward, input.phi, input.psi, &mut a.table);
+            a.result = vec![r.code, r.place, r.count];
+            a.result.extend(r.commands.map(u64::from));
+            a
         }
     };
 }

@@ -23,8 +23,14 @@ pub fn all(n: usize) -> u64 {
     u64::MAX >> (64 - n)
 }
 
+/// The states of a set, lowest first.
 pub fn states(set: u64) -> impl Iterator<Item = usize> {
-    (0..64).filter(move |s| set >> s & 1 == 1)
+    let mut left = set;
+    std::iter::from_fn(move || {
+        let state = left.trailing_zeros();
+        left &= left.checked_sub(1)?;
+        Some(state as usize)
+    })
 }
 
 impl Device {

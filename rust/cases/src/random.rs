@@ -1,6 +1,6 @@
 //! Random inputs for comparing two programs: one seed, one input. Each input
 //! serves every call; its parts are independent enough that each call sees
-//! all its codes often.
+//! all its codes often. Finding a reverse has inputs of its own.
 
 use std::env;
 
@@ -11,7 +11,7 @@ use crate::device::{
 };
 use crate::rng::Rng;
 
-/// What one seed gives to every call.
+/// What one seed gives to every call but finding a reverse.
 #[derive(Clone, Debug, PartialEq, Eq)]
 pub struct Input {
     pub seed: u64,
@@ -48,6 +48,19 @@ pub struct Input {
     /// For the lookups: a state and a command.
     pub ridge: (u64, u64),
     pub portable: (u64, u64),
+}
+
+/// What one seed gives to finding a reverse.
+#[derive(Clone, Debug, PartialEq, Eq)]
+pub struct FindInput {
+    pub seed: u64,
+    pub book: Vec<u8>,
+    pub forward: Vec<u8>,
+    pub phi: u64,
+    pub psi: u64,
+    /// The lent table and what it holds before the call. Its length is that stated, or longer, or too
+    /// short.
+    pub table: Vec<u64>,
 }
 
 /// The number in an environment variable, or the usual one: the first seed, how many inputs.
@@ -173,6 +186,66 @@ pub fn input(seed: u64) -> Input {
     }
 }
 
+/// The input of a seed for finding a reverse, the same each time. Most books are accepted; in most
+/// cases there is a reverse.
+pub fn find_input(seed: u64) -> FindInput {
+    // Not the numbers of `input`.
+    let rng = &mut Rng::new(seed ^ 0x5eed_f19d);
+    let largest = rng.below(150) == 0;
+    let mut device = if largest {
+        permutations(rng, 64, 32)
+    } else {
+        find_device(rng)
+    };
+    let mut asked = random_asked(rng, &device);
+    if rng.chance(60) && !largest {
+        lure(rng, &mut device, &mut asked);
+    }
+    let length = rng.within(0, 8);
+    let story = random_story(rng, &device, length);
+    let mut items = if largest {
+        largest_items(rng, &device, &story)
+    } else {
+        random_items(rng, &device, &story)
+    };
+    if rng.chance(8) && !items.is_empty() {
+        asked = rng.pick(&items).clone();
+    }
+    spoil_asked(rng, &device, &mut asked);
+    let wrong = rng.below(100);
+    if wrong < 5 {
+        let item = not_undoing(rng, &device, &items);
+        insert(rng, &mut items, item);
+    }
+    if (4..9).contains(&wrong) {
+        let item = not_effective(rng, &device, &items);
+        insert(rng, &mut items, item);
+    }
+    device.weights = random_weights(rng, device.m);
+
+    let mut records = book_records(&device, &items);
+    match rng.below(100) {
+        0..=4 => damage_records(rng, &device, &mut records),
+        5..=6 => damage_weights(rng, &device, &mut records),
+        _ => {}
+    }
+    let mut book = records.concat();
+    if rng.chance(2) {
+        damage_bytes(rng, &mut book);
+    }
+    let short = rng.chance(4);
+    let table = lent_length(rng, 2048, short);
+    let filler = &mut Rng::new(rng.word());
+    FindInput {
+        seed,
+        book,
+        forward: asked.forward,
+        phi: asked.phi,
+        psi: asked.psi,
+        table: (0..table).map(|_| filler.word()).collect(),
+    }
+}
+
 /// A length as stated, longer, or too short.
 fn lent_length(rng: &mut Rng, stated: usize, short: bool) -> usize {
     match (short, rng.below(8)) {
@@ -224,17 +297,26 @@ fn huge(rng: &mut Rng) -> u64 {
 // Devices
 
 fn random_device(rng: &mut Rng) -> Device {
-    let n = match rng.below(100) {
-        0..=54 => rng.within(1, 5),
-        55..=81 => rng.within(6, 12),
-        82..=92 => rng.within(13, 40),
-        _ => rng.within(60, 64),
-    };
+    let n = random_n(rng);
     let m = match rng.below(100) {
         0..=69 => rng.within(1, 6),
         70..=93 => rng.within(7, 12),
         _ => rng.within(24, 32),
     };
+    device_of(rng, n, m)
+}
+
+fn random_n(rng: &mut Rng) -> usize {
+    match rng.below(100) {
+        0..=54 => rng.within(1, 5),
+        55..=81 => rng.within(6, 12),
+        82..=92 => rng.within(13, 40),
+        _ => rng.within(60, 64),
+    }
+}
+
+/// A device of about so many states and commands.
+fn device_of(rng: &mut Rng, n: usize, m: usize) -> Device {
     match rng.below(100) {
         0..=5 => ridge_device(),
         6..=24 => permutations(rng, n, m.next_multiple_of(2)),
@@ -248,6 +330,66 @@ fn random_device(rng: &mut Rng) -> Device {
         }
         _ => mixed(rng, n, m),
     }
+}
+
+/// A device for finding a reverse. Only with more than a few states are three commands ever needed.
+fn find_device(rng: &mut Rng) -> Device {
+    let n = match rng.below(100) {
+        0..=19 => random_n(rng),
+        20..=89 => rng.within(4, 16),
+        _ => rng.within(17, 64),
+    };
+    let m = match rng.below(100) {
+        0..=64 => rng.within(1, 5),
+        65..=84 => rng.within(6, 12),
+        _ => rng.within(13, 32),
+    };
+    match rng.below(100) {
+        0..=24 => steps(rng, n, m),
+        25..=49 => gathering(rng, n, m),
+        _ => device_of(rng, n, m),
+    }
+}
+
+/// Each command goes round the states by a step of its own, the same in every state. Now and then it
+/// may stay, or can't be carried out in some states, or leads to one state from everywhere.
+fn steps(rng: &mut Rng, n: usize, m: usize) -> Device {
+    let mut device = Device::empty(n, m);
+    for c in 0..m {
+        let (kind, step) = (rng.below(16), rng.below(n));
+        for s in 0..n {
+            let there = 1 << ((s + step) % n);
+            let mask = match kind {
+                0 => there | 1 << s,
+                1 if rng.chance(30) => 0,
+                2 => 1 << step,
+                _ => there,
+            };
+            device.set(s, c, mask);
+        }
+    }
+    device
+}
+
+/// Commands that lead to several states, and commands that lead from nearly all states to one, which
+/// is one of two; a few lead from each state to one of its own.
+fn gathering(rng: &mut Rng, n: usize, m: usize) -> Device {
+    let mut device = Device::empty(n, m);
+    let targets = [rng.below(n), rng.below(n)];
+    for c in 0..m {
+        let (kind, to) = (rng.below(10), *rng.pick(&targets));
+        for s in 0..n {
+            let any = |rng: &mut Rng| 1 << rng.below(n);
+            let mask = match kind {
+                _ if rng.chance(12) => 0,
+                0..=4 => 1 << to,
+                5..=7 => any(rng) | any(rng) | any(rng),
+                _ => any(rng),
+            };
+            device.set(s, c, mask);
+        }
+    }
+    device
 }
 
 /// The weights of m commands: all 1, low ones with many equal sums, or any.
@@ -810,6 +952,148 @@ fn largest_items(rng: &mut Rng, device: &Device, story: &Story) -> Vec<Item> {
             }
         })
         .collect()
+}
+
+// What is asked for
+
+/// Forward commands, phi and psi. Mostly there is a reverse, of three commands at most.
+fn random_asked(rng: &mut Rng, device: &Device) -> Item {
+    // As many commands as are wanted, or else fewer; four are too many.
+    let most = *rng.pick(&[0, 1, 1, 2, 2, 3, 3, 4, 4, 4]);
+    let tries = if device.n > 16 { 30 } else { 120 };
+    let mut counts = (0..=most).rev().flat_map(|count| [count].repeat(tries));
+    let found = counts.find_map(|count| asked_with(rng, device, count));
+    found.unwrap_or_else(|| {
+        let length = rng.within(1, 8);
+        Item {
+            forward: (0..length).map(|_| rng.below(device.m) as u8).collect(),
+            reverse: vec![],
+            phi: all(device.n),
+            psi: rng.word() & all(device.n),
+        }
+    })
+}
+
+/// What so many reverse commands undo, if it is found, and neither two nor one nor none where they
+/// are more.
+fn asked_with(rng: &mut Rng, device: &Device, count: usize) -> Option<Item> {
+    let everything = all(device.n);
+    let longest = if rng.chance(70) { 3 } else { 8 };
+    let length = rng.within(1, longest);
+    let story = random_story(rng, device, length);
+    let forward = story.commands;
+    let last = story.possible[forward.len()];
+    let phi = match rng.below(4) {
+        0..=1 => everything,
+        2 => last,
+        _ => last | rng.word() & rng.word() & everything,
+    };
+    let inverse: Option<Vec<u8>> = (forward.iter().rev())
+        .map(|&c| device.inverse[usize::from(c)])
+        .collect();
+    let reverse = inverse
+        .filter(|inverse| inverse.len() == count && rng.chance(50))
+        .unwrap_or_else(|| (0..count).map(|_| rng.below(device.m) as u8).collect());
+    let undone = device.undone_starts(&forward, &reverse, phi);
+    let effective = undone & device.effective_starts(&forward, phi);
+    if forward.is_empty() || effective == 0 {
+        return None;
+    }
+    let start = 1 << rng.state_of(effective);
+    let psi = match rng.below(4) {
+        0..=1 => undone,
+        2 => start,
+        _ => start | rng.word() & undone,
+    };
+    Some(Item {
+        forward,
+        reverse,
+        phi,
+        psi,
+    })
+    .filter(|item| !fewer_do(device, item))
+}
+
+/// Whether fewer reverse commands would do, two at most.
+fn fewer_do(device: &Device, item: &Item) -> bool {
+    let undoes = |reverse: &[u8]| {
+        states(item.psi).all(|s| device.undone(s, &item.forward, reverse, item.phi))
+    };
+    let commands = || 0..device.m as u8;
+    let count = item.reverse.len();
+    count > 0 && undoes(&[])
+        || count > 1 && commands().any(|a| undoes(&[a]))
+        || count > 2 && commands().any(|a| commands().any(|b| undoes(&[a, b])))
+}
+
+/// Where the reverse goes through a set of several states, another command leads from there to the start
+/// and is stuck in one of them, if the device has one that isn't used. One start with an end is left.
+fn lure(rng: &mut Rng, device: &mut Device, asked: &mut Item) {
+    let effective = asked.psi & device.effective_starts(&asked.forward, asked.phi);
+    let used = |c: &u8| asked.forward.contains(c) || asked.reverse.contains(c);
+    let unused: Vec<u8> = (0..device.m as u8).filter(|c| !used(c)).collect();
+    if effective == 0 || unused.is_empty() {
+        return;
+    }
+    let start = rng.state_of(effective);
+    let mut sets = vec![device.ends(start, &asked.forward, asked.phi)];
+    for &c in &asked.reverse {
+        sets.push(device.after(sets[sets.len() - 1], c));
+    }
+    sets.retain(|set| set.count_ones() > 1);
+    if sets.is_empty() {
+        return;
+    }
+    let (set, c) = (*rng.pick(&sets), *rng.pick(&unused));
+    let stuck = rng.state_of(set);
+    for s in states(set) {
+        let back = if s == stuck { 0 } else { 1 << start };
+        device.set(s, usize::from(c), back);
+    }
+    device.inverse.fill(None);
+    asked.psi &= !effective;
+    asked.psi |= 1 << start;
+}
+
+/// Now and then what no item may hold, or what has no reverse, or perhaps none.
+fn spoil_asked(rng: &mut Rng, device: &Device, asked: &mut Item) {
+    let (n, m) = (device.n, device.m);
+    let everything = all(n);
+    let high_bit = |rng: &mut Rng| match n {
+        64 => 0,
+        _ if rng.chance(50) => 1 << n,
+        _ => 1 << rng.within(n, 63),
+    };
+    match rng.below(100) {
+        // 14: no commands, too many, one that the device doesn't have; a state likewise.
+        0..=1 => asked.forward.clear(),
+        2..=4 => {
+            let length = *rng.pick(&[9, 9, 10, 16, 255, 256, 257, 259, 264, 300]);
+            let c = rng.below(m) as u8;
+            asked.forward.resize(length, c);
+        }
+        5..=7 => {
+            let at = rng.below(asked.forward.len());
+            let low = asked.forward[at];
+            asked.forward[at] = *rng.pick(&[m as u8, m as u8, low | 32, low | 128, 255]);
+        }
+        8..=9 => asked.phi |= high_bit(rng),
+        10..=11 => asked.psi |= high_bit(rng),
+        // 15: no start has an end.
+        12 => asked.phi = 0,
+        13 => asked.psi = 0,
+        14 => asked.psi &= !device.effective_starts(&asked.forward, asked.phi),
+        // More starts, another end, another command.
+        15..=20 => asked.psi |= 1 << rng.below(n),
+        21..=22 => asked.psi |= rng.word() & everything,
+        23..=24 => asked.phi |= 1 << rng.below(n),
+        25 => {
+            let at = rng.below(asked.forward.len());
+            asked.forward[at] = rng.below(m) as u8;
+        }
+        26 if asked.forward.len() < 8 => asked.forward.push(rng.below(m) as u8),
+        _ => {}
+    }
 }
 
 // Damage

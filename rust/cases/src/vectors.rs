@@ -62,6 +62,23 @@ pub struct ForecastCase {
     pub answer: [u64; 5],
 }
 
+/// What is given to finding a reverse and what it must answer.
+#[derive(Clone, Debug)]
+pub struct FindCase {
+    pub book: Vec<u8>,
+    pub forward: Vec<u8>,
+    pub phi: u64,
+    pub psi: u64,
+    /// What the lent table holds before the call.
+    pub table: Vec<u64>,
+    pub code: u64,
+    pub place: u64,
+    pub count: u64,
+    pub commands: [u8; 3],
+    /// Entries 0 to 15 afterwards.
+    pub table_after: Vec<u64>,
+}
+
 /// What is given to writing and what it must answer.
 #[derive(Clone, Debug)]
 pub struct WriteCase {
@@ -212,6 +229,42 @@ pub fn forecast_cases() -> Vec<ForecastCase> {
             book: bytes.take(length).to_vec(),
             i,
             answer: numbers(lines.next()).try_into().unwrap(),
+        });
+    }
+    assert!(lines.next().is_none());
+    cases
+}
+
+/// Each case: a byte for the length of the lent table, phi and psi (8 bytes each), two-byte lengths of
+/// the book and of the forward commands, the book, the forward commands. Each answer: two lines, namely
+/// code, place, count and the three commands; the table's entries 0 to 15.
+pub fn find_cases() -> Vec<FindCase> {
+    let mut bytes = Bytes(data!("find_vectors/data/finds.bin"));
+    let mut lines = answers!("find_vectors").lines();
+    let mut cases = Vec::new();
+    while !bytes.0.is_empty() {
+        let table = match bytes.number(1) {
+            0 => 2048,
+            1 => 2047,
+            2 => 2053,
+            lent => panic!("lent {lent}"),
+        };
+        let (phi, psi) = (bytes.word(), bytes.word());
+        let (book, forward) = (bytes.number(2), bytes.number(2));
+        let (book, forward) = (bytes.take(book).to_vec(), bytes.take(forward).to_vec());
+        let head: [u64; 6] = numbers(lines.next()).try_into().unwrap();
+        let [code, place, count, commands @ ..] = head;
+        cases.push(FindCase {
+            book,
+            forward,
+            phi,
+            psi,
+            table: table_before(table),
+            code,
+            place,
+            count,
+            commands: commands.map(|command| command.try_into().unwrap()),
+            table_after: numbers(lines.next()),
         });
     }
     assert!(lines.next().is_none());

@@ -4,7 +4,7 @@
 
 use rollback_cases::device::{all, book_bytes, ridge_device, run_bytes, Device, Item};
 use rollback_cases::*;
-use rollback_plain::{assemble, check, forecast, Assembly, Checking};
+use rollback_plain::{assemble, check, find, forecast, Assembly, Checking, Found};
 
 fn checked(book: &[u8]) -> Checking {
     check(book, &mut [0; 2048], &mut [0; 2176], &mut [0; 32])
@@ -20,6 +20,10 @@ fn assembled(book: &[u8], run: &[u8]) -> Assembly {
         &mut [0; 256],
         &mut [0; 96],
     )
+}
+
+fn found(book: &[u8], item: &Item) -> Found {
+    find(book, &item.forward, item.phi, item.psi, &mut [0; 2048])
 }
 
 fn good(n: u64, m: u64, items: u64, units: u64) -> Checking {
@@ -109,18 +113,21 @@ fn portable() {
         table: masks().portable.to_vec(),
         ..Device::empty(32, 12)
     };
-    let judged = |reverse: &[u8]| {
-        let item = Item {
-            forward: vec![5],
-            reverse: reverse.to_vec(),
-            phi: all(32),
-            psi: 1 << 17 | 1 << 25,
-        };
-        checked(&book_bytes(&device, &[item]))
+    let item = |reverse: &[u8]| Item {
+        forward: vec![5],
+        reverse: reverse.to_vec(),
+        phi: all(32),
+        psi: 1 << 17 | 1 << 25,
     };
+    let judged = |reverse: &[u8]| checked(&book_bytes(&device, &[item(reverse)]));
     assert_eq!(judged(&[11, 1, 10]), good(32, 12, 1, 8));
     let wrong = judged(&[1]);
     assert_eq!((wrong.code, wrong.place, wrong.units), (8, 5_382, 2));
+
+    // The same is found, in a book without items.
+    let found = found(&book_bytes(&device, &[]), &item(&[]));
+    assert_eq!((found.code, found.count), (0, 3));
+    assert_eq!(found.commands, [11, 1, 10]);
 }
 
 /// Power 3 was set from power 0: back by one command of weight 10, or by three of weight 3.
@@ -191,10 +198,75 @@ fn forecasts() {
     }
 }
 
+/// What each item of the ridge repeater's book asks for: its own reverse, or one that is shorter or
+/// lower.
+#[test]
+fn finds() {
+    let book = ridge_book();
+    let (mut slots, mut own) = ([0; 2176], 0);
+    let items = check(&book, &mut [0; 2048], &mut slots, &mut [0; 32]).items;
+    for slot in slots.chunks(34).take(items as usize) {
+        let (k, r) = (usize::from(slot[0]), usize::from(slot[1]));
+        let item = Item {
+            forward: slot[2..2 + k].to_vec(),
+            reverse: slot[10..10 + r].to_vec(),
+            phi: u64::from_le_bytes(slot[18..26].try_into().unwrap()),
+            psi: u64::from_le_bytes(slot[26..].try_into().unwrap()),
+        };
+        let found = found(&book, &item);
+        let count = found.count as usize;
+        assert_eq!((found.code, found.place), (0, 0));
+        assert!((count, &found.commands[..count]) <= (r, &item.reverse));
+        own += usize::from(found.commands[..count] == item.reverse);
+    }
+    println!("ridge: {own} of {items} items have the reverse that is found");
+    assert!(own >= 40, "{own}");
+}
+
 #[test]
 fn a_seed_gives_the_same_input() {
     for seed in (0..300).chain([u64::MAX, 1 << 40]) {
         assert!(input(seed) == input(seed), "seed {seed}");
+        assert!(find_input(seed) == find_input(seed), "seed {seed}");
     }
     assert!(input(1) != input(2));
+    assert!(find_input(1) != find_input(2));
+}
+
+/// Each outcome of finding a reverse has its share of the random inputs.
+#[test]
+fn shares_of_finds() {
+    const SEEDS: u64 = 20_000;
+    let (mut codes, mut counts) = ([0; 16], [0; 4]);
+    for seed in 0..SEEDS {
+        let FindInput {
+            book,
+            forward,
+            phi,
+            psi,
+            mut table,
+            ..
+        } = find_input(seed);
+        let found = find(&book, &forward, phi, psi, &mut table);
+        codes[found.code as usize] += 1;
+        counts[found.count as usize] += u64::from(found.code == 0);
+    }
+    let faulty: u64 = codes[2..=7].iter().sum::<u64>() + codes[13];
+    let share = |count: u64| count as f64 * 100.0 / SEEDS as f64;
+    for (count, &times) in counts.iter().enumerate() {
+        println!("{count} commands: {:.1} %", share(times));
+        assert!(share(times) >= 7.0, "{count} commands: {times}");
+    }
+    for (name, times, least) in [
+        ("code 1", codes[1], 3.0),
+        ("a faulty book", faulty, 5.0),
+        ("code 8", codes[8], 2.5),
+        ("code 12", codes[12], 2.5),
+        ("code 14", codes[14], 6.0),
+        ("code 15", codes[15], 6.0),
+    ] {
+        println!("{name}: {:.1} %", share(times));
+        assert!(share(times) >= least, "{name}: {times}");
+    }
+    println!("{SEEDS} finds: codes {codes:?}");
 }

@@ -2,12 +2,13 @@
 //! trajectories, histories and chains are listed one by one. A seed whose
 //! lists would be too long is skipped.
 
-use rollback_cases::{input, Input};
+use rollback_cases::{find_input, input, FindInput, Input};
 use rollback_plain::{
-    assemble, assemble_legs, assemble_small, check, forecast, page, portable, read, ridge, write,
-    Assembly, Leg, Lookup,
+    assemble, assemble_legs, assemble_small, check, find, forecast, page, portable, read, ridge,
+    write, Assembly, Leg, Lookup,
 };
-use std::collections::BTreeSet;
+use std::collections::{BTreeMap, BTreeSet};
+use std::ops::RangeInclusive;
 
 const SEEDS: u64 = 16_000;
 
@@ -903,6 +904,314 @@ fn forecasts() {
     }
     let answered = [0, 2, 3, 4, 5, 6, 7, 9, 13];
     let enough = answered.iter().all(|&code: &usize| codes[code] >= 100);
+    assert!(enough, "{codes:?}");
+}
+
+/// What finding a reverse must answer: code, place and the reverse; and the table.
+struct ExpectedFind {
+    code: u64,
+    place: usize,
+    reverse: Vec<usize>,
+    table: Vec<u64>,
+    /// What must be met, and whether it is.
+    met: Vec<(&'static str, bool)>,
+}
+
+/// All reverses of so many commands, the lowest first.
+fn reverses(m: usize, count: usize) -> Vec<Vec<usize>> {
+    match count {
+        0 => vec![vec![]],
+        _ => (reverses(m, count - 1).into_iter())
+            .flat_map(|start| (0..m).map(move |last| [&start[..], &[last]].concat()))
+            .collect(),
+    }
+}
+
+/// What a reverse is asked for, in terms of a book.
+struct Asked<'a> {
+    book: &'a Book,
+    forward: Vec<usize>,
+    phi: Set,
+    psi: Set,
+}
+
+impl Asked<'_> {
+    /// Whether the reverse makes an accepted item, with these starts.
+    fn accepts(&self, reverse: &[usize], psi: &Set, fuel: &mut Fuel) -> Option<bool> {
+        let item = Item {
+            place: 0,
+            forward: self.forward.clone(),
+            reverse: reverse.to_vec(),
+            phi: self.phi.clone(),
+            psi: psi.clone(),
+            slot: vec![],
+        };
+        Some(self.book.judge(&item, fuel)?.code == 0)
+    }
+
+    /// The first of all reverses from so many to so many commands, with these starts.
+    fn first(
+        &self,
+        counts: RangeInclusive<usize>,
+        psi: &Set,
+        fuel: &mut Fuel,
+    ) -> Option<Option<Vec<usize>>> {
+        for reverse in counts.flat_map(|count| reverses(self.book.m, count)) {
+            if self.accepts(&reverse, psi, fuel)? {
+                return Some(Some(reverse));
+            }
+        }
+        Some(None)
+    }
+
+    /// The starts, each with its ends, in phi or not.
+    fn ends(&self, fuel: &mut Fuel) -> Option<Vec<(usize, Set)>> {
+        let k = self.forward.len();
+        let ends = |&start: &usize| {
+            let forward = self.book.executions(start, &self.forward, fuel)?;
+            let whole = forward.iter().filter(|&&(done, _)| done == k);
+            Some((start, whole.map(|&(_, end)| end).collect()))
+        };
+        self.psi.iter().map(ends).collect()
+    }
+
+    /// Reverses below the one that is found. One leads back from all ends but those where it is stuck.
+    /// One leads from the ends together to their starts, but not from each to its own.
+    fn nearly(
+        &self,
+        found: Option<&[usize]>,
+        fuel: &mut Fuel,
+    ) -> Option<Vec<(&'static str, bool)>> {
+        let mut starts = self.ends(fuel)?;
+        starts.retain(|(_, ends)| !ends.is_disjoint(&self.phi));
+        let all: Set = starts.iter().map(|&(start, _)| start).collect();
+        let (mut but_stuck, mut together) = (false, false);
+        for reverse in (0..=3).flat_map(|count| reverses(self.book.m, count)) {
+            if found == Some(&reverse) || starts.is_empty() {
+                break;
+            }
+            let (mut stuck, mut each_arrives, mut each_its_own) = (false, true, true);
+            let mut last = Set::new();
+            for (start, ends) in &starts {
+                let mut back = Set::new();
+                for &end in ends.intersection(&self.phi) {
+                    for (done, state) in self.book.executions(end, &reverse, fuel)? {
+                        if done == reverse.len() {
+                            back.insert(state);
+                        } else {
+                            stuck = true;
+                        }
+                    }
+                }
+                each_its_own &= back == Set::from([*start]);
+                each_arrives &= !back.is_empty();
+                last.extend(back);
+            }
+            but_stuck |= stuck && each_its_own;
+            together |= !stuck && each_arrives && last == all;
+        }
+        Some(vec![
+            ("one that is stuck at some ends, not taken", but_stuck),
+            ("one that leads to another start, not taken", together),
+        ])
+    }
+
+    /// What is met where a reverse is found. The others are looked for where there aren't too many.
+    fn met(&self, found: &[usize], fuel: &mut Fuel) -> Option<Vec<(&'static str, bool)>> {
+        let Book { n, m, .. } = *self.book;
+        let mut others = vec![];
+        for reverse in (0..=3).flat_map(|count| reverses(m, count)) {
+            if m <= 6 && reverse != found && self.accepts(&reverse, &self.psi, fuel)? {
+                others.push(reverse);
+            }
+        }
+        let sum = |reverse: &[usize]| reverse.iter().map(|&c| self.book.weights[c]).sum::<usize>();
+        let highest = |command: Option<&usize>| m > 1 && command == Some(&(m - 1));
+        let as_many = || others.iter().filter(|other| other.len() == found.len());
+        let lower_but_longer = |other: &Vec<usize>| other.len() > found.len() && **other < *found;
+        let ends = self.ends(fuel)?;
+        let in_phi = || ends.iter().map(|(_, ends)| ends & &self.phi);
+        Some(vec![
+            ("another of as many commands", as_many().count() > 0),
+            (
+                "another of as many, with a lower last command",
+                as_many().any(|other| other.last() < found.last()),
+            ),
+            (
+                "a longer one, lower at the first difference",
+                others.iter().any(lower_but_longer),
+            ),
+            (
+                "another with a lower sum of weights",
+                others.iter().any(|other| sum(other) < sum(found)),
+            ),
+            ("the first command is the highest", highest(found.first())),
+            (
+                "the last of several commands is the highest",
+                found.len() > 1 && highest(found.last()),
+            ),
+            ("over 12 commands of the device", m > 12),
+            ("64 states", n == 64),
+            (
+                "a start without an end",
+                in_phi().any(|ends| ends.is_empty()),
+            ),
+            (
+                "an end outside phi",
+                ends.iter().any(|(_, ends)| !ends.is_subset(&self.phi)),
+            ),
+            ("a start with several ends", in_phi().any(|e| e.len() > 1)),
+            (
+                "several starts with an end",
+                in_phi().filter(|ends| !ends.is_empty()).count() > 1,
+            ),
+            ("eight forward commands", self.forward.len() == 8),
+            ("64 items in the book", self.book.items.len() == 64),
+        ])
+    }
+
+    /// What is met where there is no reverse.
+    fn met_without(&self, fuel: &mut Fuel) -> Option<Vec<(&'static str, bool)>> {
+        let mut with_an_end = self.ends(fuel)?;
+        with_an_end.retain(|(_, ends)| !ends.is_disjoint(&self.phi));
+        let some = !self.phi.is_empty() && !self.psi.is_empty();
+        let few = self.book.m <= 5 && !with_an_end.is_empty();
+        let mut each = few;
+        for (start, _) in with_an_end.iter().filter(|_| few) {
+            each = each && self.first(0..=3, &Set::from([*start]), fuel)?.is_some();
+        }
+        let four = few && self.first(4..=4, &self.psi, fuel)?.is_some();
+        Some(vec![
+            ("15, phi zero", self.phi.is_empty()),
+            ("15, psi zero", self.psi.is_empty()),
+            (
+                "15, neither zero, no start with an end",
+                some && with_an_end.is_empty(),
+            ),
+            ("15, each start by itself has a reverse", each),
+            ("15, four commands would do", four),
+        ])
+    }
+}
+
+/// None when the lists would be too long.
+fn expected_find(input: &FindInput) -> Option<ExpectedFind> {
+    let mut fuel = Fuel(150_000);
+    let mut answer = ExpectedFind {
+        code: 1,
+        place: 0,
+        reverse: vec![],
+        table: input.table.clone(),
+        met: vec![],
+    };
+    let k = input.forward.len();
+    if input.table.len() < 2048 {
+        return Some(answer);
+    }
+    let book = match parse(&input.book) {
+        Ok(book) => book,
+        Err((code, place)) => {
+            (answer.code, answer.place) = (code, place);
+            let is_14 = k == 0 || k > 8 || input.forward.iter().any(|&c| c >= 32);
+            answer.met = vec![("a faulty book before 14", is_14)];
+            return Some(answer);
+        }
+    };
+    for (state, row) in book.outcomes.iter().enumerate() {
+        for (command, outcomes) in row.iter().enumerate() {
+            answer.table[state * book.m + command] = outcomes.iter().map(|s| 1 << s).sum();
+        }
+    }
+    let forward: Vec<usize> = input.forward.iter().map(|&c| c as usize).collect();
+    let [phi, psi] = [input.phi, input.psi].map(|mask| set(&mask.to_le_bytes(), book.n));
+    let not_held = [
+        ("14, no forward command", k == 0),
+        ("14, over 8 forward commands", k > 8),
+        (
+            "14, a forward command",
+            forward.iter().any(|&c| c >= book.m),
+        ),
+        ("14, phi", phi.is_none()),
+        ("14, psi", psi.is_none()),
+    ];
+    let is_14 = not_held.iter().any(|&(_, is_so)| is_so);
+    for item in &book.items {
+        let code = book.judge(item, &mut fuel)?.code;
+        if code != 0 {
+            (answer.code, answer.place) = (code, item.place);
+            answer.met = vec![
+                ("8 before 14", code == 8 && is_14),
+                ("12 before 14", code == 12 && is_14),
+            ];
+            return Some(answer);
+        }
+    }
+    let (Some(phi), Some(psi), false) = (phi, psi, is_14) else {
+        answer.code = 14;
+        answer.met = not_held.to_vec();
+        return Some(answer);
+    };
+
+    let asked = Asked {
+        book: &book,
+        forward,
+        phi,
+        psi,
+    };
+    let found = asked.first(0..=3, &asked.psi, &mut fuel)?;
+    (answer.code, answer.met) = match &found {
+        Some(reverse) => (0, asked.met(reverse, &mut fuel)?),
+        None => (15, asked.met_without(&mut fuel)?),
+    };
+    if book.m <= 6 {
+        answer
+            .met
+            .extend(asked.nearly(found.as_deref(), &mut fuel)?);
+    }
+    let longer = found.is_some() && input.table.len() > 2048;
+    answer.met.push(("a longer table", longer));
+    answer.reverse = found.unwrap_or_default();
+    Some(answer)
+}
+
+#[test]
+fn finds() {
+    let (mut codes, mut counts) = ([0; 16], [0; 4]);
+    let mut met: BTreeMap<&str, usize> = BTreeMap::new();
+    let mut skipped = 0;
+    for seed in 0..SEEDS {
+        let input = find_input(seed);
+        let Some(expected) = expected_find(&input) else {
+            skipped += 1;
+            continue;
+        };
+        let mut table = input.table.clone();
+        let (forward, phi, psi) = (&input.forward, input.phi, input.psi);
+        let found = find(&input.book, forward, phi, psi, &mut table);
+        let head = (found.code, found.place as usize, found.count as usize);
+        let expected_head = (expected.code, expected.place, expected.reverse.len());
+        assert_eq!(head, expected_head, "seed {seed}");
+        let commands = found.commands.map(usize::from);
+        let expected_commands = over(&[0; 3], &expected.reverse);
+        assert_eq!(commands[..], expected_commands, "seed {seed}");
+        assert!(table == expected.table, "table, seed {seed}");
+
+        codes[found.code as usize] += 1;
+        counts[found.count as usize] += usize::from(found.code == 0);
+        for (place, is_there) in expected.met {
+            *met.entry(place).or_default() += usize::from(is_there);
+        }
+    }
+    println!("{SEEDS} seeds, {skipped} skipped, codes {codes:?}, by number of commands {counts:?}");
+    assert_eq!(met.len(), 30);
+    for (place, count) in met {
+        println!("{place}: {count}");
+        assert!(count >= 50, "{place}: {count}");
+    }
+    assert!(skipped < SEEDS / 3, "{skipped} skipped");
+    assert!(counts.iter().all(|&count| count >= 500), "{counts:?}");
+    let answered = [0, 1, 2, 3, 4, 5, 6, 7, 8, 12, 13, 14, 15];
+    let enough = answered.iter().all(|&code: &usize| codes[code] >= 50);
     assert!(enough, "{codes:?}");
 }
 

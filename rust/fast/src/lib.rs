@@ -2,13 +2,15 @@
 //! benchmark to measure against. It answers as `rollback_plain` does and takes only its result types.
 //!
 //! Checking goes item by item and start by start, one command on one set at a time, and leaves no run
-//! of commands early but where it is stuck. Nothing is allocated. It takes about 25 KB of stack for
-//! checking, which the library may not.
+//! of commands early but where it is stuck. Finding a reverse takes the last command from sets of
+//! commands and tries the others. Nothing is allocated. It takes about 25 KB of stack for checking,
+//! which the library may not.
 
 #![forbid(unsafe_code)]
 
 mod assemble;
 mod check;
+mod find;
 mod forecast;
 mod item;
 mod lookup;
@@ -19,10 +21,13 @@ mod run;
 mod step;
 mod write;
 
-pub use rollback_plain::{Assembly, Checking, Forecasted, Leg, Lookup, Paged, Reading, Writing};
+pub use rollback_plain::{
+    Assembly, Checking, Forecasted, Found, Leg, Lookup, Paged, Reading, Writing,
+};
 
 pub use assemble::{assemble, assemble_legs};
 pub use check::check;
+pub use find::find;
 pub use forecast::forecast;
 pub use lookup::{portable, ridge};
 pub use page::page;

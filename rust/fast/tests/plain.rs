@@ -3,8 +3,8 @@
 //! `ROLLBACK_COUNT` the number of random inputs (30,000).
 
 use rollback_cases::{
-    answers, assemble_cases, book_cases, forecast_cases, input, number_from_env, page_cases,
-    write_cases, Input,
+    answers, answers_find, assemble_cases, book_cases, find_cases, find_input, forecast_cases,
+    input, number_from_env, page_cases, write_cases, FindInput, Input,
 };
 use rollback_cases::{
     branching_book, branching_run, largest_book, largest_run, q5_run, q_book, ridge_book, ridge_run,
@@ -14,11 +14,18 @@ use rollback_plain as plain;
 
 answers!(by_fast_program, fast);
 answers!(by_plain_program, plain);
+answers_find!(found_by_fast_program, fast);
+answers_find!(found_by_plain_program, plain);
 
 fn same(input: &Input, name: &str) {
     for (f, p) in by_fast_program(input).iter().zip(&by_plain_program(input)) {
         assert_eq!(f.against(p), [""; 0], "{name}, {}", f.call);
     }
+}
+
+fn same_find(input: &FindInput, name: &str) {
+    let (f, p) = (found_by_fast_program(input), found_by_plain_program(input));
+    assert_eq!(f.against(&p), [""; 0], "{name}");
 }
 
 /// All lent buffers with the stated lengths.
@@ -77,6 +84,17 @@ fn vectors() {
         };
         same(&input, &format!("page {number}"));
     }
+    for (number, case) in find_cases().into_iter().enumerate() {
+        let input = FindInput {
+            seed: 0,
+            book: case.book,
+            forward: case.forward,
+            phi: case.phi,
+            psi: case.psi,
+            table: case.table,
+        };
+        same_find(&input, &format!("find {number}"));
+    }
     for (number, case) in write_cases().into_iter().enumerate() {
         let input = Input {
             n: case.n,
@@ -130,6 +148,35 @@ fn measured_books() {
     }
 }
 
+/// For each start alone and for all together, after the first commands of the run.
+#[test]
+fn finds_in_measured_books() {
+    let books = [
+        (largest_book(), largest_run()),
+        (branching_book(), branching_run()),
+        (ridge_book(), ridge_run()),
+        (q_book(), q5_run()),
+    ];
+    for (number, (book, run)) in books.into_iter().enumerate() {
+        let n = book[4];
+        let all = u64::MAX >> (64 - n);
+        let commands = &run[5..5 + usize::from(run[4])];
+        for length in 1..=commands.len().min(9) {
+            for psi in (0..n).map(|start| 1 << start).chain([all]) {
+                let input = FindInput {
+                    seed: 0,
+                    book: book.clone(),
+                    forward: commands[..length].to_vec(),
+                    phi: all,
+                    psi,
+                    table: vec![7; 2048],
+                };
+                same_find(&input, &format!("book {number}, length {length}, {psi}"));
+            }
+        }
+    }
+}
+
 #[test]
 fn lookups() {
     for state in 0..70 {
@@ -147,5 +194,14 @@ fn random_inputs() {
     let count = number_from_env("ROLLBACK_COUNT", 30_000);
     for seed in first..first + count {
         same(&input(seed), &format!("seed {seed}"));
+    }
+}
+
+#[test]
+fn random_finds() {
+    let first = number_from_env("ROLLBACK_SEED", 0);
+    let count = number_from_env("ROLLBACK_COUNT", 30_000);
+    for seed in first..first + count {
+        same_find(&find_input(seed), &format!("seed {seed}"));
     }
 }

@@ -9,6 +9,7 @@ use std::ops::RangeInclusive;
 
 mod accept;
 mod assemble;
+mod find;
 mod forecast;
 mod lookup;
 mod page;
@@ -22,6 +23,7 @@ mod small;
 mod write;
 
 pub use assemble::{assemble, assemble_legs};
+pub use find::find;
 pub use forecast::forecast;
 pub use page::page;
 pub use portable::portable;
@@ -78,6 +80,15 @@ pub struct Forecasted {
     pub units: u64,
     pub plan_bytes: u64,
     pub legs: u64,
+}
+
+/// What finding a reverse answers: how many commands it has, and the commands.
+#[derive(Clone, Copy, Debug, PartialEq, Eq)]
+pub struct Found {
+    pub code: u64,
+    pub place: u64,
+    pub count: u64,
+    pub commands: [u8; 3],
 }
 
 /// What assembling answers.

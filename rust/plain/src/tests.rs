@@ -1,6 +1,6 @@
 //! The marked twelve cases on the small device Q, items that can never be used,
-//! plans on paper, weights, units and forecasts, plans with a scratch, and facts
-//! of the two devices with a constant table.
+//! plans on paper, weights, units and forecasts, plans with a scratch, reverses
+//! that are found, and facts of the two devices with a constant table.
 
 use super::*;
 
@@ -57,7 +57,8 @@ fn checked(items: &[Item]) -> Checking {
     checked_of(&book(items))
 }
 
-/// Assembling with a scratch must turn the same books down.
+/// Assembling with a scratch and finding a reverse must turn the same books
+/// down.
 fn checked_of(book: &[u8]) -> Checking {
     let found = check(book, &mut [0; 2048], &mut [0; 2176], &mut [0; 32]);
     let expected = match found.code {
@@ -67,6 +68,13 @@ fn checked_of(book: &[u8]) -> Checking {
     };
     let small = assemble_small(book, &[], &mut [0; 64], &mut [0; 256], &mut [0; 96]);
     assert_eq!((small.code, small.place), expected);
+    let expected = match found.code {
+        // There are no forward commands.
+        0 => (14, 0),
+        code => (code, found.place),
+    };
+    let reverse = find(book, &[], 0, 0, &mut [0; 2048]);
+    assert_eq!((reverse.code, reverse.place), expected);
     found
 }
 
@@ -664,6 +672,12 @@ fn reading_refused(book: &[u8]) -> (u64, u64) {
     let mut scratch = [79; 64];
     let small = assemble_small(book, &sent, &mut scratch, &mut lent.plan, &mut lent.legs);
     assert_eq!(small, paged);
+    for forward in [&[0][..], &[]] {
+        let reverse = find(book, forward, 1, 1, &mut lent.table);
+        let head = (reverse.code, reverse.place);
+        assert_eq!(head, (found.code, found.place));
+        assert_eq!((reverse.count, reverse.commands), (0, [0; 3]));
+    }
     assert_eq!(lent, Lent::new(STATED));
     (found.code, found.place)
 }
@@ -1067,6 +1081,309 @@ fn a_scratch_holds_every_state() {
     let book = [&bytes[..], &item(&(&[0], &[1], u64::MAX, 1))].concat();
     let (found, plan, legs) = assembled_of(&book, &run(&[0], &[1, 1 << 63]));
     assert_eq!((found.code, plan, legs), (0, vec![1], vec![[0, 1, 0]]));
+}
+
+// Reverses that are found
+
+/// A ring of eight states: command 0 goes on by one, 1 by two.
+fn ring() -> Vec<u8> {
+    let mut bytes = vec![2, 0, 1, 0, 8, 2];
+    for state in 0..8 {
+        for command in 0..2 {
+            let mask = 1 << ((state + command + 1) % 8);
+            bytes.extend([10, 0, 2, 0, state, command, mask, 0, 0, 0, 0, 0, 0, 0]);
+        }
+    }
+    bytes
+}
+
+/// The code and the commands. A table of the stated length and a longer one
+/// hold what checking leaves. A reverse makes an item that checking accepts;
+/// there is none of fewer commands, and no lower one of as many.
+fn found_of(book: &[u8], forward: &[u8], phi: u64, psi: u64) -> (u64, Vec<u8>) {
+    let [found, again] = [2048, 2053].map(|length| {
+        let mut table: Vec<u64> = (1..=length).collect();
+        let mut lent = Lent::new(STATED);
+        lent.table = table.clone();
+        let checked = lent.check(book);
+        let found = find(book, forward, phi, psi, &mut table);
+        assert_eq!(table, lent.table);
+        if checked.code == 0 {
+            assert!([0, 14, 15].contains(&found.code), "{found:?}");
+            assert_eq!(found.place, 0);
+        } else {
+            let head = (found.code, found.place);
+            assert_eq!(head, (checked.code, checked.place));
+        }
+        found
+    });
+    assert_eq!(found, again);
+    let (used, unused) = found.commands.split_at(found.count as usize);
+    assert!(unused.iter().all(|&command| command == 0));
+    let expected = match found.code {
+        0 | 15 => least_accepted(book, forward, phi, psi),
+        _ => None,
+    };
+    assert_eq!(found.code == 0, expected.is_some());
+    assert_eq!(used, expected.unwrap_or_default());
+    (found.code, used.to_vec())
+}
+
+/// Of all reverses up to three commands the first that checking accepts with
+/// these forward commands and masks, on the book's device.
+fn least_accepted(book: &[u8], forward: &[u8], phi: u64, psi: u64) -> Option<Vec<u8>> {
+    let m = book[5];
+    let accepted = |reverse: &[u8]| {
+        let last = item(&(forward, reverse, phi, psi));
+        let mut lent = Lent::new(STATED);
+        lent.check(&[book, &last].concat()).code == 0
+    };
+    let mut reverses = vec![vec![]];
+    for _ in 0..4 {
+        if let Some(found) = reverses.iter().find(|reverse| accepted(reverse)) {
+            return Some(found.clone());
+        }
+        reverses = (reverses.iter())
+            .flat_map(|reverse| (0..m).map(move |command| [&reverse[..], &[command]].concat()))
+            .collect();
+    }
+    None
+}
+
+#[test]
+fn reverses_on_a_ring() {
+    let none = (15, vec![]);
+    let back = |commands: &[u8]| (0, commands.to_vec());
+    // By their number, whatever they weigh.
+    for weights in [&[][..], &[1, 1000], &[1000, 1], &[1000, 1000]] {
+        let book = weighted(&ring(), weights);
+        let found = |forward: &[u8]| found_of(&book, forward, 255, 255);
+        assert_eq!(found(&[0]), none);
+        assert_eq!(found(&[1]), back(&[1, 1, 1]));
+        assert_eq!(found(&[0, 1]), back(&[0, 1, 1]));
+        assert_eq!(found(&[0, 1, 1]), back(&[0, 1]));
+        assert_eq!(found(&[1, 1, 1]), back(&[1]));
+        assert_eq!(found(&[1, 1, 1, 1]), back(&[]));
+        // Their order makes no difference, nor does going round again.
+        assert_eq!(found(&[1, 0]), back(&[0, 1, 1]));
+        assert_eq!(found(&[1, 0, 1]), back(&[0, 1]));
+        assert_eq!(found(&[0; 7]), back(&[0]));
+        assert_eq!(found(&[0; 8]), back(&[]));
+        assert_eq!(found(&[1; 8]), back(&[]));
+        assert_eq!(found(&[0, 1, 1, 1, 1]), none);
+        assert_eq!(found(&[1, 1, 1, 1, 1, 1, 0]), back(&[0, 1]));
+    }
+}
+
+/// The dearest is taken where it is lower, and where others are longer.
+#[test]
+fn reverses_whatever_they_weigh() {
+    for weights in [&[][..], &[1000, 1, 1], &[1000, 1000, 1]] {
+        let book = switch(weights, &[OFF, OVER]);
+        assert_eq!(found_of(&book, &[1], 3, 1), (0, vec![0]));
+        assert_eq!(found_of(&book, &[0], 3, 2), (0, vec![1]));
+        assert_eq!(found_of(&book, &[2], 3, 3), (0, vec![2]));
+        assert_eq!(found_of(&book, &[1], 3, 3), (15, vec![]));
+    }
+}
+
+/// Ends outside phi, starts without an end: nothing is asked of them.
+#[test]
+fn reverses_for_some_states() {
+    let book = ring();
+    for (phi, psi) in [(4, 1), (4, 255), (255, 1), (12, 35), (128, 32)] {
+        assert_eq!(found_of(&book, &[1], phi, psi), (0, vec![1, 1, 1]));
+    }
+    for (phi, psi) in [(4, 2), (4, 254), (3, 7), (0, 255), (255, 0), (0, 0)] {
+        assert_eq!(found_of(&book, &[1], phi, psi), (15, vec![]));
+    }
+}
+
+#[test]
+fn reverses_on_q() {
+    let q = book(&Q);
+    let found = |forward: &[u8], phi, psi| found_of(&q, forward, phi, psi);
+    // Items 0 and 4 ask for the same, 1 to 3 for something else.
+    assert_eq!(found(&[2], 7, 7), (0, vec![0]));
+    assert_eq!(found(&[1], 7, 1), (0, vec![0]));
+    assert_eq!(found(&[2, 1], 7, 7), (0, vec![0]));
+    assert_eq!(found(&[1], 7, 2), (0, vec![]));
+    assert_eq!(found(&[2, 0], 7, 7), (0, vec![]));
+    assert_eq!(found(&[0], 7, 2), (0, vec![1]));
+    // Two starts with the same end, and no trajectory.
+    assert_eq!(found(&[1], 7, 3), (15, vec![]));
+    assert_eq!(found(&[2, 2], 7, 7), (15, vec![]));
+    assert_eq!(found(&[2], 0, 7), (15, vec![]));
+    assert_eq!(found(&[2], 7, 0), (15, vec![]));
+    // Nothing leads to state 2 alone.
+    assert_eq!(found(&[0], 7, 4), (15, vec![]));
+    // Eight commands are the most.
+    assert_eq!(found(&[2, 0, 2, 0, 2, 0, 2, 1], 7, 7), (0, vec![0]));
+}
+
+#[test]
+fn what_no_item_may_hold() {
+    let q = book(&Q);
+    let none = (14, vec![]);
+    assert_eq!(found_of(&q, &[2], 8, 7), none);
+    assert_eq!(found_of(&q, &[2], 7, 8), none);
+    assert_eq!(found_of(&q, &[2], 7, 1 << 63), none);
+    assert_eq!(found_of(&q, &[2], u64::MAX, 7), none);
+    assert_eq!(found_of(&q, &[2], 1 << 32, 0), none);
+    assert_eq!(found_of(&q, &[], 7, 7), none);
+    for length in [9, 10, 256, 257, 264, 65_537] {
+        assert_eq!(found_of(&q, &vec![0; length], 7, 7), none);
+    }
+    for command in [3, 32, 34, 128, 255] {
+        assert_eq!(found_of(&q, &[command], 7, 7), none);
+        assert_eq!(found_of(&q, &[2, command, 0], 7, 7), none);
+        assert_eq!(found_of(&q, &[0, 0, 0, 0, 0, 0, 0, command], 7, 7), none);
+    }
+    // It goes before 15.
+    assert_eq!(found_of(&q, &[1, 3], 7, 3), none);
+    assert_eq!(found_of(&q, &[2, 2], 0, 8), none);
+    // Of 64 states each may be there, and of 32 commands each be sent.
+    let device = [2, 0, 1, 0, 64, 32];
+    assert_eq!(found_of(&device, &[31], u64::MAX, u64::MAX).0, 15);
+    assert_eq!(found_of(&device, &[32], u64::MAX, u64::MAX).0, 14);
+}
+
+/// The table as it is left, entry by entry.
+#[test]
+fn the_table_of_a_search() {
+    let q = book(&Q);
+    let after = |book: &[u8], forward: &[u8], phi, psi| {
+        let mut table: Vec<u64> = (1..=2048).collect();
+        let found = find(book, forward, phi, psi, &mut table);
+        // What Q doesn't have stays.
+        assert!((10..).zip(&table[9..]).all(|(before, &now)| now == before));
+        let head = [found.code, found.place, found.count];
+        (head, found.commands, table[..9].to_vec())
+    };
+    let read = || vec![1, 2, 6, 1, 2, 0, 1, 2, 0];
+    let untouched = || (1..=9).collect::<Vec<u64>>();
+    assert_eq!(after(&q, &[0], 7, 2), ([0, 0, 1], [1, 0, 0], read()));
+    assert_eq!(after(&q, &[1], 7, 3), ([15, 0, 0], [0; 3], read()));
+    assert_eq!(after(&q, &[2, 2], 7, 7), ([15, 0, 0], [0; 3], read()));
+    assert_eq!(after(&q, &[2], 0, 7), ([15, 0, 0], [0; 3], read()));
+    assert_eq!(after(&q, &[2], 8, 7), ([14, 0, 0], [0; 3], read()));
+    assert_eq!(after(&q, &[], 7, 7), ([14, 0, 0], [0; 3], read()));
+    assert_eq!(after(&q, &[0; 9], 7, 7), ([14, 0, 0], [0; 3], read()));
+    assert_eq!(after(&q, &[3], 7, 7), ([14, 0, 0], [0; 3], read()));
+    for (item, code) in [(STUCK, 8), (NO_TRAJECTORY, 12)] {
+        let wrong = book(&[Q[0], item]);
+        for forward in [&[2][..], &[], &[3], &[1]] {
+            let expected = ([code, 129, 0], [0; 3], read());
+            assert_eq!(after(&wrong, forward, 7, 7), expected);
+        }
+    }
+    for forward in [&[2][..], &[], &[3]] {
+        let cut = ([2, 201, 0], [0; 3], untouched());
+        assert_eq!(after(&q[..224], forward, 7, 7), cut);
+        let ones = ([13, 6, 0], [0; 3], untouched());
+        assert_eq!(after(&weighted(&q, &[1, 1, 1]), forward, 7, 7), ones);
+    }
+}
+
+/// A short table goes before the book's faults and all that is asked.
+#[test]
+fn a_short_table_is_refused_first() {
+    let short = Found {
+        code: 1,
+        place: 0,
+        count: 0,
+        commands: [0; 3],
+    };
+    for book in [book(&Q), book(&[STUCK]), vec![]] {
+        for forward in [&[2][..], &[], &[0; 9], &[3]] {
+            for phi in [7, 8] {
+                for length in [0, 1, 9, 2047] {
+                    let before: Vec<u64> = (1..=length).collect();
+                    let mut table = before.clone();
+                    assert_eq!(find(&book, forward, phi, 7, &mut table), short);
+                    assert_eq!(table, before);
+                }
+            }
+        }
+    }
+}
+
+/// Reading's places are those of the book; 64 items are no obstacle.
+#[test]
+fn reverses_and_the_books_own_codes() {
+    let full = book(&[Q[1]; 64]);
+    let mut table = [0; 2048];
+    let found = find(&full, &[2], 7, 7, &mut table);
+    assert_eq!((found.code, found.count, found.commands), (0, 1, [0; 3]));
+    let mut refused = |book: &[u8]| {
+        let found = find(book, &[2], 7, 7, &mut table);
+        assert_eq!((found.count, found.commands), (0, [0; 3]));
+        (found.code, found.place)
+    };
+    assert_eq!(refused(&book(&[Q[1]; 65])), (7, 104 + 64 * 24));
+    assert_eq!(refused(&book(&[Q[3], PSI_3, STUCK])), (8, 127));
+    assert_eq!(refused(&book(&[NO_TRAJECTORY, STUCK])), (12, 104));
+    assert_eq!(refused(&[]), (2, 0));
+    assert_eq!(refused(&full[..103]), (2, 90));
+    let mut last = book(&[Q[1]; 64]);
+    last[104 + 63 * 24 + 2] = 2;
+    assert_eq!(refused(&last), (3, 104 + 63 * 24));
+}
+
+/// Many outcomes: none may be stuck, and all must arrive.
+#[test]
+fn reverses_after_branching() {
+    // Command 2 of the ladder leads from 0 to 1 or 3.
+    let book = ladder(&[]);
+    assert_eq!(found_of(&book, &[2], 15, 15), (15, vec![]));
+    assert_eq!(found_of(&book, &[2], 2, 15), (0, vec![1]));
+    assert_eq!(found_of(&book, &[2], 8, 15), (0, vec![1, 1, 1]));
+    assert_eq!(found_of(&book, &[0, 0], 15, 15), (0, vec![1, 1]));
+    assert_eq!(found_of(&book, &[0, 0, 0], 15, 15), (0, vec![1, 1, 1]));
+    // From there to 0 or 2.
+    assert_eq!(found_of(&book, &[2, 1], 15, 15), (15, vec![]));
+    assert_eq!(found_of(&book, &[2, 1], 1, 15), (0, vec![]));
+    assert_eq!(found_of(&book, &[2, 1], 4, 15), (0, vec![1, 1]));
+}
+
+/// A device of 32 commands of which only the last goes on, by 16 of 64 states:
+/// 31 31 31 is the last reverse of all.
+#[test]
+fn the_last_reverse_of_all() {
+    let mut bytes = vec![2, 0, 1, 0, 64, 32];
+    for state in 0..64u8 {
+        bytes.extend([10, 0, 2, 0, state, 31]);
+        bytes.extend((1u64 << ((state + 16) % 64)).to_le_bytes());
+    }
+    let back = |forward: &[u8]| {
+        let found = find(&bytes, forward, u64::MAX, u64::MAX, &mut [0; 2048]);
+        (found.code, found.count, found.commands)
+    };
+    assert_eq!(back(&[31]), (0, 3, [31, 31, 31]));
+    assert_eq!(back(&[31, 31]), (0, 2, [31, 31, 0]));
+    assert_eq!(back(&[31, 31, 31]), (0, 1, [31, 0, 0]));
+    assert_eq!(back(&[31, 31, 31, 31]), (0, 0, [0, 0, 0]));
+    assert_eq!(back(&[30]), (15, 0, [0, 0, 0]));
+}
+
+/// A ring of 16 states: command 0 goes on by one, 1 by nine, 2 by six.
+#[test]
+fn the_first_difference_decides() {
+    let mut bytes = vec![2, 0, 1, 0, 16, 3];
+    for state in 0..16u8 {
+        for (command, step) in [(0, 1), (1, 9), (2, 6)] {
+            bytes.extend([10, 0, 2, 0, state, command]);
+            bytes.extend((1u64 << ((state + step) % 16)).to_le_bytes());
+        }
+    }
+    let found = |forward: &[u8]| found_of(&bytes, forward, 65_535, 65_535);
+    // On by 7: not 2 0. On by 10: not 1 0. On by 13: neither 2 0 2 nor 2 2 0.
+    assert_eq!(found(&[1]), (0, vec![0, 2]));
+    assert_eq!(found(&[2]), (0, vec![0, 1]));
+    assert_eq!(found(&[0, 0, 0]), (0, vec![0, 2, 2]));
+    // On by 2: not 1 1. On by 9.
+    assert_eq!(found(&[0, 1, 0, 0, 0, 0]), (0, vec![0, 0]));
+    assert_eq!(found(&[2, 0]), (0, vec![1]));
 }
 
 fn found(mask: u64) -> Lookup {

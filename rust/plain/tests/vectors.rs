@@ -1,11 +1,12 @@
 //! Every case that a second program has answered.
 
 use rollback_cases::{
-    assemble_cases, book_cases, forecast_cases, masks, page_cases, small_cases, write_cases,
+    assemble_cases, book_cases, find_cases, forecast_cases, masks, page_cases, small_cases,
+    write_cases,
 };
 use rollback_plain::{
-    assemble, assemble_legs, assemble_small, check, forecast, page, portable, read, ridge, write,
-    Leg, Lookup,
+    assemble, assemble_legs, assemble_small, check, find, forecast, page, portable, read, ridge,
+    write, Found, Leg, Lookup,
 };
 
 fn finds(lookup: fn(u64, u64) -> Lookup, commands: u64, masks: &[u64]) {
@@ -104,6 +105,29 @@ fn checks_are_forecast() {
             found.legs,
         ];
         assert_eq!(found, case.answer, "case {number}");
+    }
+}
+
+#[test]
+fn reverses_are_found() {
+    let cases = find_cases();
+    assert_eq!(cases.len(), 900);
+    for (number, case) in cases.iter().enumerate() {
+        let mut table = case.table.clone();
+        let found = find(&case.book, &case.forward, case.phi, case.psi, &mut table);
+        let expected = Found {
+            code: case.code,
+            place: case.place,
+            count: case.count,
+            commands: case.commands,
+        };
+        assert_eq!(found, expected, "case {number}");
+        assert_eq!(table[..16], case.table_after, "table, case {number}");
+
+        // The table is that of checking, untouched where it is short.
+        let mut checked = case.table.clone();
+        check(&case.book, &mut checked, &mut [8; 2176], &mut [9; 32]);
+        assert_eq!(table, checked, "table, case {number}");
     }
 }
 

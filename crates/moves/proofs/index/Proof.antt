@@ -63,8 +63,8 @@ u16-at-requires c κs = search rules
 add-move-requires : tie.Need-add_move-requires invariant-loop decreases-loop
 add-move-requires c κs = (more c.before, c.before.before.before.loop-masks.invariant.2)
 
-add_at : tie.Need-overflow_add-at invariant-loop decreases-loop
-add_at c = omega (arith, more c.before.before.before)
+add_at : tie.Need-overflow_add-at-in-loop-masks invariant-loop decreases-loop
+add_at c = omega (arith, more c.before.before.before.before)
 
 loop-less : tie.Need-loop-masks-smaller invariant-loop decreases-loop
 loop-less c = omega (arith, more c.before.before.before.before)

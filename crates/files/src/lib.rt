@@ -1,4 +1,5 @@
 // Reading a file into a lent row.
+#![tactic(auto)]
 ghost use Rattle.io.specs.Counts.{IsPrefixLen};
 
 // The first bytes of a file; none where it can't be read. The answer is their number.

@@ -1,5 +1,6 @@
 // What the test programs that run vector files share: a file of cases, parts of a file, lengths, what a table holds before a call, and rows of numbers on
 // standard output.
+#![tactic(auto)]
 ghost use Rattle.std.specs.Prelude.{◌≡◌, ℕ, ◌+◌, ◌*◌, ◌<◌, ◌≤◌, min, length, get_or, take, drop};
 ghost use Rattle.io.specs.Counts.{IsPrefixLen};
 

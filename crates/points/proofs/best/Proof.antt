@@ -112,25 +112,25 @@ sub-rest c = omega arith
 
 loop-less : tie.Need-loop-rest-smaller invariant-loop decreases-loop
 loop-less c =
-    let k = c in
-    left_less 64 (loop k.before.before.before.before.before.before.before.before.before).loop-rest.rest (omega arith) (loop k.before.before.before.before.before.before.before.before.before).loop-rest.invariant.0.low k.loop-rest-test.true (rest k.before.before.before.before.before.before.before.before.before) (rest-is k.before.before.before.before.before.before.before.before.before)
+    let k = c.before.before.before.before.before.before.before.before.before in
+    left_less 64 (loop k).loop-rest.rest (omega arith) (loop k).loop-rest.invariant.0.low c.loop-rest-test.true (rest k) (rest-is k)
 
 loop-again : tie.Need-loop-rest-preserved invariant-loop decreases-loop
 loop-again c =
-    let k = c in
-    let l = (loop k.before.before.before.before.before.before.before.before.before).loop-rest in
-    let a = (start k.before.before.before.before.before.before.before.before.before).args in
+    let k = c.before.before.before.before.before.before.before.before.before in
+    let l = (loop k).loop-rest in
+    let a = (start k).args in
     let r = c.wide.ensures.0 in
     let x = c.wide-in-loop-rest.ensures.0 in (
       ⊎_elim
           (λ w.
-          subst₂ (λ (y z : ℕ). Next k (record { number = y; item = z })) (sym w.1) (sym w.2)
-          (subst (Next k) (sym (cheaper_yes a.ks.now a.prices.now a.fewest.now a.j l.number l.first (next k.before.before.before.before.before.before.before.before.before) _ _ r x w.0.taken)) (again k.before.before.before.before.before.before.before.before.before)))
+          subst₂ (λ (y z : ℕ). Next k (record { number = y; item = z })) (sym w.number-is) (sym w.first-is)
+          (subst (Next k) (sym (cheaper_yes a.ks.now a.prices.now a.fewest.now a.j l.number l.first (next k) _ _ r x w.if-sum-number.true)) (again k)))
           (λ w.
-          subst₂ (λ (y z : ℕ). Next k (record { number = y; item = z })) (sym w.1) (sym w.2)
-          (subst (Next k) (sym (cheaper_no a.ks.now a.prices.now a.fewest.now a.j l.number l.first (next k.before.before.before.before.before.before.before.before.before) _ _ r x w.0.left)) (again k.before.before.before.before.before.before.before.before.before)))
-          c.if-sum-number.branch,
-      λ s h. l.inv.1 s (both-member l.rest (l.rest - 1) s h),
+          subst₂ (λ (y z : ℕ). Next k (record { number = y; item = z })) (sym w.number-is) (sym w.first-is)
+          (subst (Next k) (sym (cheaper_no a.ks.now a.prices.now a.fewest.now a.j l.number l.first (next k) _ _ r x w.if-sum-number.false)) (again k)))
+          c.if-sum-number.branch-raw,
+      λ s h. l.invariant.1 s (both-member l.rest (l.rest - 1) s h),
     )
 
 returns : tie.Need-returns invariant-loop decreases-loop

@@ -53,12 +53,12 @@ loop-again c =
     let Next : List ℕ → Type 0 = λ (x : List ℕ). Marking a.item a.ahead.now a.sets.now a.a (l.loop-j.j + 1) a.rows.now x in (
       ⊎_elim
           (λ w.
-          subst Next (sym w.2)
-          (mark_in a.item a.ahead.now a.sets.now a.a a.rows.now l.loop-j.invariant.0 _ t.fits_at.ensures w.0.taken (omega arith) (omega arith)))
+          subst Next (sym w.rows-is)
+          (mark_in a.item a.ahead.now a.sets.now a.a a.rows.now l.loop-j.invariant.0 _ t.fits_at.ensures w.if-fits_at.true (omega arith) (omega arith)))
           (λ w.
-          subst Next (sym w.1)
-          (mark_out a.item a.ahead.now a.sets.now a.a a.rows.now l.loop-j.invariant.0 _ t.fits_at.ensures w.0.left))
-          c.if-fits_at.branch,
+          subst Next (sym w.rows-is)
+          (mark_out a.item a.ahead.now a.sets.now a.a a.rows.now l.loop-j.invariant.0 _ t.fits_at.ensures w.if-fits_at.false))
+          c.if-fits_at.branch-raw,
       omega arith,
     )
 

@@ -88,7 +88,7 @@ links c =
 -- ---- what is read is item a
 module _ (c : tie.After-parts_at-item invariant-loop decreases-loop invariant-loop2 decreases-loop2) where
   abbrev s : tie.Start invariant-loop decreases-loop invariant-loop2 decreases-loop2
-  s = start (head c)
+  s = start (head c).before
 
   abbrev a : ℕ
   a = (head c).loop-a.a
@@ -100,7 +100,7 @@ module _ (c : tie.After-parts_at-item invariant-loop decreases-loop invariant-lo
   k_is = k-read s.args.book.now s.args.places.now a c.word_at.ensures.0 c.parts_at-item.ensures
 
   known : a < 64
-  known = omega (arith, c.loop-a-test.true, few-items (head c))
+  known = omega (arith, c.loop-a-test.true, few-items (head c).before)
 
 -- what it asks is what it takes to fit
 fit_is : (c : tie.After-asked_by invariant-loop decreases-loop invariant-loop2 decreases-loop2) (ahead : List ℕ) → let s = s (read c) in Ahead s.args.run.now s.args.i ahead
@@ -127,7 +127,7 @@ module _ (c : tie.In-loop-j invariant-loop decreases-loop invariant-loop2 decrea
   passed = listed c.before
 
   abbrev t : tie.Start invariant-loop decreases-loop invariant-loop2 decreases-loop2
-  t = start passed
+  t = start passed.before
 
   abbrev up : ℕ
   up = c.loop-j.j + 1
@@ -143,7 +143,7 @@ module _ (c : tie.In-loop-j invariant-loop decreases-loop invariant-loop2 decrea
   choice-is : let r = cheapest passed.loop-a.ks passed.loop-a.prices c.loop-j.fewest up (get_or passed.loop-a.rows up 0) in
       Chosen (links t) c.loop-j.fewest up t.args.count r.number r.item
   choice-is =
-      cheapest-chosen (links t) passed.loop-a.ks passed.loop-a.prices c.loop-j.fewest up (get_or passed.loop-a.rows up 0) (few-items passed)
+      cheapest-chosen (links t) passed.loop-a.ks passed.loop-a.prices c.loop-j.fewest up (get_or passed.loop-a.rows up 0) (few-items passed.before)
       (all_listed.fits_are up within) all_listed.ks_are all_listed.prices_are
 
   room : (b : ℕ) → member (get_or passed.loop-a.rows up 0) b ≡ true → get_or passed.loop-a.ks b 0 ≤ up
@@ -225,7 +225,7 @@ asked-by-requires c κs = fair c.before
 mark-requires : tie.Need-mark-requires invariant-loop decreases-loop invariant-loop2 decreases-loop2
 mark-requires c κs =
     let p = read c.before.before in
-    (known p, few-points (head p), (head p).loop-a.invariant.0.rows_size)
+    (known p, few-points (head p).before, (head p).loop-a.invariant.0.rows_size)
 
 add_a : tie.Need-overflow_step-a invariant-loop decreases-loop invariant-loop2 decreases-loop2
 add_a c = omega (arith, known (read c.before.before.before))
@@ -263,7 +263,7 @@ add-best-2 : tie.Need-overflow_add-j-in-loop-j invariant-loop decreases-loop inv
 add-best-2 c = omega arith
 
 best-requires : tie.Need-best-choice-requires invariant-loop decreases-loop invariant-loop2 decreases-loop2
-best-requires c κs = let k = c in (omega (arith, within k.before.before.before, few-points (passed k.before.before.before)), room k.before.before.before)
+best-requires c κs = let k = c in (omega (arith, within k.before.before.before, few-points (passed k.before.before.before).before), room k.before.before.before)
 
 cast-fewest : tie.Need-overflow_cast-fewest invariant-loop decreases-loop invariant-loop2 decreases-loop2
 cast-fewest c =
@@ -297,7 +297,7 @@ loop2-again c =
     let r = c.best-choice in
     let k = c in
     let l = k.loop-j in (
-      numbered_next (links (t k.before.before.before.before.before)) (moving k.before.before.before.before.before.before.before) l.j l.fewest l.items _ _ (omega (arith, within k.before.before.before.before.before, few-points (passed k.before.before.before.before.before))) l.invariant.0
+      numbered_next (links (t k.before.before.before.before.before)) (moving k.before.before.before.before.before.before.before) l.j l.fewest l.items _ _ (omega (arith, within k.before.before.before.before.before, few-points (passed k.before.before.before.before.before).before)) l.invariant.0
           (subst (λ (x : Choice). Chosen (links (t k.before.before.before.before.before)) l.fewest (up k.before.before.before.before.before) (t k.before.before.before.before.before).args.count x.number x.item) (sym r.ensures) (choice-is k.before.before.before.before.before)),
       within k.before.before.before.before.before,
     )
@@ -305,7 +305,7 @@ loop2-again c =
 returns-5 : tie.Need-returns invariant-loop decreases-loop invariant-loop2 decreases-loop2
 returns-5 c =
     let l = c.loop-j in
-    let s = start (listed c.before) in
+    let s = start (listed c.before).before in
     let done : l.j ≡ s.args.i = omega (arith, l.invariant.1) in
     record { numbered = λ items points moving short. subst (λ (x : ℕ). Numbered (links s) x l.fewest l.items) done l.invariant.0 }
 

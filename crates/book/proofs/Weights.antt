@@ -36,10 +36,10 @@ ones_decide = record { nil = refl; cons = λ w ws. go (same w 1) (all_one ws) }
     go false b = refl
 
 -- ---- all of them 1
-pub all_one : (m : ℕ) → all_one (replicate m 1) ≡ true
+pub all_one_lem : (m : ℕ) → all_one (replicate m 1) ≡ true
 unfolding all_one both same
-all_one zero = refl
-all_one (suc m) = all_one m
+all_one_lem zero = refl
+all_one_lem (suc m) = all_one_lem m
 
 pub ones_are : (ws : List ℕ) → all_one ws ≡ true → ws ≡ replicate (length ws) 1
 unfolding all_one both

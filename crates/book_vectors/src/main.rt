@@ -1,5 +1,6 @@
 // Runs the 600 cases of books.bin, made by a second program, through reading and checking, and prints what each answers and leaves behind.
 // A case is a byte that says how buffers are lent; the book's length, two bytes; the book.
+#![tactic(auto)]
 use checker::Checking;
 use reader::Reading;
 

@@ -1,6 +1,7 @@
 // Runs the 900 cases of cases.bin, made by a second program, through assembling, and prints for each the answer, the plan, the legs and the 33
 // numbers, a line each.
 // A case is the book's length and the run's, two bytes each; the book; the run.
+#![tactic(auto)]
 use assembly::Assembly;
 
 fn print_answer(r: Assembly, plan: &[u8], legs: &[u8]) {

@@ -2,6 +2,7 @@
 // a line each.
 // A case is a byte that says how the table is lent; phi and psi, 8 bytes each; the book's length and the number of forward commands, two bytes each; the
 // book; the forward commands.
+#![tactic(auto)]
 use finder::Found;
 
 fn print_answer(r: Found, table: &[u64]) {

@@ -1,5 +1,6 @@
 // Runs the 900 cases of forecasts.bin, made by a second program, through the forecast, and prints for each the answer on a line.
 // A case is i, 8 bytes; the book's length, two bytes; the book.
+#![tactic(auto)]
 use forecast::Forecasted;
 
 fn print_answer(r: Forecasted) {

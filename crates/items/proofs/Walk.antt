@@ -42,9 +42,9 @@ module _ (s : List ℕ) (at : ℕ) (x : Move) (t : List ℕ) (e : drop at s ≡ 
   unfolding frame bytes_le
   command_at_lem = rw (← get_or-drop at s 5 0, e)
 
-  pub mask_at : x.mask < 256 ^ 8 → le_at 8 s (at + 6) ≡ x.mask
+  pub mask_at_lem : x.mask < 256 ^ 8 → le_at 8 s (at + 6) ≡ x.mask
   unfolding frame bytes_le
-  mask_at h = rw (← drop-drop 6 at s, e) (first-eight x.mask t h)
+  mask_at_lem h = rw (← drop-drop 6 at s, e) (first-eight x.mask t h)
 
   pub move-inside : at + 14 ≤ length s
   move-inside =

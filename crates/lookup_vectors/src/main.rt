@@ -1,5 +1,6 @@
 // Holds every lookup and every entry of the constant tables to the rule worked out, which the program `tables` holds to a second program's masks.
 // For each device: how many entries agree, then the answers for what is no state or no command.
+#![tactic(auto)]
 ghost use Rattle.std.specs.Prelude.{◌≤◌, ◌<◌};
 
 use lookups::LookupResult;

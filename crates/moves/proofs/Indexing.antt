@@ -26,7 +26,7 @@ use Rattle.book.proofs.Rising.{AllowedMoves}
 use Rattle.book.proofs.Scanning.{kept-moves}
 use Rattle.book.proofs.Largest.{length-book}
 use Rattle.items.specs.Items.{MovesBegin}
-use Rattle.items.proofs.Walk.{past-move, state_at, command_at_lem, mask_at, move-inside, no_move, none_left}
+use Rattle.items.proofs.Walk.{past-move, state_at, command_at_lem, mask_at_lem, move-inside, no_move, none_left}
 use Rattle.moves.specs.Moves.{mask_at, moved_to, with_move, move_added}
 use Rattle.moves.proofs.Rows.{moved_in, moved_none, added_in, kept_in, in_added, place_kept, place_added, place_next}
 
@@ -166,7 +166,7 @@ module _ (s : List ℕ) (b : Book) (at : ℕ) (masks : List ℕ) (a : AllowedBoo
     found_new =
         moved_in s row' x.command (added_in row (at + 6) x.command small)
         ∙ (ap (whole_at s) (place_added row (at + 6) x.command small before m al.0.known_command next_here)
-        ∙ (whole_in s (at + 6) (omega (arith, move-inside s at x t r)) ∙ mask_at s at x t r (mask_fits b.n x.mask a.device.n_high al.0.states)
+        ∙ (whole_in s (at + 6) (omega (arith, move-inside s at x t r)) ∙ mask_at_lem s at x t r (mask_fits b.n x.mask a.device.n_high al.0.states)
         ∙ (sym (first-outcome x xs) ∙ missed x.state x.command al.0.known_state (λ h. omega (arith, before x.command h)))))
 
     found_here : (c : ℕ) → In (row' / 65536) c → moved_to s row' c ≡ outcome_of b.moves x.state c

@@ -1,6 +1,7 @@
 // Runs the 700 cases of pages.bin, made by a second program, through assembling on paper, and prints for each the answer with the length, the 33
 // numbers, the page's lines as they are, and the four bytes behind them.
 // A case is a byte that says how buffers are lent; the book's length and the run's, two bytes each; the book; the run.
+#![tactic(auto)]
 use libc::STDOUT_FILENO;
 use paper::Paged;
 

@@ -1,5 +1,6 @@
 // The calls for C and Rust: the public calls by the names and the order that include/rollback.h has. Each keeps the promise of the call that it passes
 // on to.
+#![tactic(auto)]
 ghost use Rattle.std.specs.Prelude.{◌≡◌, ◌≤◌, ◌<◌, length};
 ghost use Rattle.std.proofs.lemmas.List.Edits.{sets};
 ghost use Rattle.book.specs.Lent.{lent};

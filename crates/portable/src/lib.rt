@@ -1,4 +1,5 @@
 // The portable relay's constant table and its lookup (02, CR 1).
+#![tactic(auto)]
 mod masks;
 mod rows;
 

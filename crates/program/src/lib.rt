@@ -1,4 +1,5 @@
 // The program `rollback`, for any folder.
+#![tactic(auto)]
 ghost use Rattle.program.specs.Printed.{ReportOfSome, SizeOfSome};
 
 use libc::STDOUT_FILENO;

@@ -27,7 +27,7 @@ use Rattle.book.proofs.Reading.{scan_whole, parse-fine}
 use Rattle.book.proofs.Slots.{length-slot}
 use Rattle.items.specs.Items.{MovesBegin, Begins, ItemStands}
 use Rattle.items.proofs.Laws.{allowed}
-use Rattle.items.proofs.Walk.{past-move, state_at, command_at_lem, mask_at, move-inside, no_move, none_left, one_more, all_passed}
+use Rattle.items.proofs.Walk.{past-move, state_at, command_at_lem, mask_at_lem, move-inside, no_move, none_left, one_more, all_passed}
 use Rattle.reader.specs.Reads.{done}
 use Rattle.reader.specs.Filling.{move_stored, TableFilled}
 
@@ -69,7 +69,7 @@ module _ {s : List ℕ} {b : Book} {whole : List ℕ} {at : ℕ} {table : List �
             allowed = al.1;
             rest = past-move s at x t r;
             gives =
-                rw (e, h, state_at s at x t r, command_at_lem s at x t r, mask_at s at x t r (mask_fits b.n x.mask a.device.n_high al.0.states)) w;
+                rw (e, h, state_at s at x t r, command_at_lem s at x t r, mask_at_lem s at x t r (mask_fits b.n x.mask a.device.n_high al.0.states)) w;
           }
 
 -- no move is left

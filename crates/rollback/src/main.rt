@@ -1,4 +1,5 @@
 // The roll-back plan for the book book.bin and the run run.bin in the folder where it is started.
+#![tactic(auto)]
 fn main() {
     program::print_in(b".");
 }

@@ -21,6 +21,7 @@
 //   book_31179  the largest book, 31,178 bytes, and one byte more: 2 at 31,178, where 31,178 bytes would give an empty plan
 //   book_31180  a book of 31,176 bytes and the header of a 65th item: 2 at 31,176, since three of its four bytes are judged; with the fourth it
 //               would be 7
+#![tactic(auto)]
 use libc::STDOUT_FILENO;
 
 fn print_folder(folder: &[u8]) {

@@ -1,6 +1,7 @@
 // Runs the 700 cases of small.bin, made by a second program, through assembling with a scratch, and prints for each the answer, the plan, the legs, the
 // 33 numbers, and on code 1 the scratch's first 8 entries, a line each.
 // A case is a byte that says how buffers are lent; the book's length and the run's, two bytes each; the book; the run.
+#![tactic(auto)]
 use assembly::Assembly;
 
 // The scratch's entries that are printed.

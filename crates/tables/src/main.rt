@@ -1,5 +1,6 @@
 // Prints the masks of both devices, as their rules' functions work them out, one a line by entry: the ridge repeater's 1,024, then the portable
 // relay's 384 (02, CR 1). make.sh makes the source files of the constant tables of this.
+#![tactic(auto)]
 use libc::STDOUT_FILENO;
 
 fn print_line(mask: u64) {

@@ -1,6 +1,7 @@
 // Runs the 500 cases of writes.bin, made by a second program, through `writer::write`, and prints for each the answer and the output's first bytes.
 // A case has 575 bytes: n, m and the count, 8 bytes each; a byte that says which buffer is one short; 32 weights, 2 bytes each; 48 entries, 8 bytes
 // each; 3 slots.
+#![tactic(auto)]
 ghost use Rattle.std.specs.Prelude.{◌≤◌};
 
 use writer::Writing;

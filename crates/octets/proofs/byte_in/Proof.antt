@@ -6,14 +6,14 @@ use Rattle.octets.proofs.byte_in.Tie as tie
 use Rattle.octets.proofs.byte_in.Reads as reads
 use Rattle.octets.proofs.byte_in.Lts as lts
 
-shared-slice-read-result : tie.Need-shared-slice-read-result
+shared-slice-read-result : tie.Need-bounds-s-i
 shared-slice-read-result c = search rules
 
-cast-result : tie.Need-overflow-cast-result
-cast-result c = omega (arith, c.shared-slice-known.given c.before.args.i)
+cast-result : tie.Need-overflow_cast-result
+cast-result c = omega (arith, c.shared_slice_known-1.given c.before.args.i)
 
 returns : tie.Need-returns
-returns c = (search rules, omega (arith, c.shared-slice-known.given c.before.args.i))
+returns c = (search rules, omega (arith, c.shared_slice_known-1.given c.before.args.i))
 
-pub byte-in-spec : {M : Type 1} → statement M
-byte-in-spec = tie.close (tie.spec shared-slice-read-result cast-result returns)
+pub byte_in_spec : {M : Type 1} → statement M
+byte_in_spec = tie.close (tie.spec shared-slice-read-result cast-result returns)

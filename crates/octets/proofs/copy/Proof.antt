@@ -11,75 +11,75 @@ use Rattle.octets.proofs.Put.{copy_first, copy_next, copy_none, room_is}
 use Rattle.octets.proofs.copy.Statement.{statement}
 use Rattle.octets.proofs.copy.Tie as tie
 
-abbrev invariant-loop : tie.invariant-loop
+abbrev invariant-loop : tie.invariant-loop-i
 invariant-loop n s p d₀ q i₀ d i = (sets d (q + i) (piece (n - i) s (p + i)) ≡ sets d₀ q (piece n s p)) × (length d ≡ length d₀) × (i ≤ n)
     × (p + n ≤ length s) × (q + n ≤ length d₀)
 
-abbrev decreases-loop : tie.decreases-loop
+abbrev decreases-loop : tie.decreases-loop-i
 decreases-loop n s p d₀ q i₀ d i = n - i
 
-has-room-requires : tie.Need-has-room-requires invariant-loop decreases-loop
+has-room-requires : tie.Need-has_room-requires invariant-loop decreases-loop
 has-room-requires c κs = search rules
 
-copy-part-requires : tie.Need-copy-part-requires invariant-loop decreases-loop
+copy-part-requires : tie.Need-copy_part-requires invariant-loop decreases-loop
 copy-part-requires c κs = search rules
 
-same_length : tie.Need-same-length invariant-loop decreases-loop
+same_length : tie.Need-shape_of-d-then-not-has_room invariant-loop decreases-loop
 same_length c = search rules
 
-returns : tie.Need-returns invariant-loop decreases-loop
+returns : tie.Need-returns-then-not-has_room invariant-loop decreases-loop
 returns c = search rules
 
-has-room-requires-2 : tie.Need-has-room-requires-2 invariant-loop decreases-loop
+has-room-requires-2 : tie.Need-has_room-requires-2 invariant-loop decreases-loop
 has-room-requires-2 c κs = search rules
 
-copy-part-requires-2 : tie.Need-copy-part-requires-2 invariant-loop decreases-loop
+copy-part-requires-2 : tie.Need-copy_part-requires-then-not-has_room-2 invariant-loop decreases-loop
 copy-part-requires-2 c κs = search rules
 
-same-length-2 : tie.Need-same-length-2 invariant-loop decreases-loop
+same-length-2 : tie.Need-shape_of-d-then-not-has_room-2 invariant-loop decreases-loop
 same-length-2 c = search rules
 
-returns-2 : tie.Need-returns-2 invariant-loop decreases-loop
+returns-2 : tie.Need-returns-then-not-has_room-2 invariant-loop decreases-loop
 returns-2 c = search rules
 
-loop-holds : tie.Need-loop-init invariant-loop decreases-loop
+loop-holds : tie.Need-loop-i-init invariant-loop decreases-loop
 loop-holds c = (
   search copy_first,
   search rules,
   omega arith,
   room_is _ _ _ _ c.before.before.before.has_room.ensures
-      c.before.before.if1.false,
-  room_is _ _ _ _ c.before.has-room2.ensures c.if2.false,
+      c.before.before.if-not-has_room.false-raw,
+  room_is _ _ _ _ c.before.has_room-2.ensures c.if-not-has_room-2.false-raw,
 )
 
-add-d : tie.Need-overflow-add-d invariant-loop decreases-loop
+add-d : tie.Need-overflow_add-d invariant-loop decreases-loop
 add-d c = omega arith
 
-shared-slice-read-d : tie.Need-shared-slice-read-d invariant-loop decreases-loop
+shared-slice-read-d : tie.Need-bounds-s-p invariant-loop decreases-loop
 shared-slice-read-d c = omega arith
 
-add-d-2 : tie.Need-overflow-add-d-2 invariant-loop decreases-loop
+add-d-2 : tie.Need-overflow_add-d-in-loop-i invariant-loop decreases-loop
 add-d-2 c = omega arith
 
-slice-write-d : tie.Need-slice-write-d invariant-loop decreases-loop
+slice-write-d : tie.Need-bounds-d-q invariant-loop decreases-loop
 slice-write-d c = omega arith
 
-add-i : tie.Need-overflow-add-i invariant-loop decreases-loop
+add-i : tie.Need-overflow_add-i invariant-loop decreases-loop
 add-i c = search rules
 
-loop-less : tie.Need-loop-smaller invariant-loop decreases-loop
+loop-less : tie.Need-loop-i-smaller invariant-loop decreases-loop
 loop-less c = search rules
 
-loop-again : tie.Need-loop-preserved invariant-loop decreases-loop
+loop-again : tie.Need-loop-i-preserved invariant-loop decreases-loop
 loop-again c = (search copy_next, search rules, omega arith, search rules, search rules)
 
-same-length-3 : tie.Need-same-length-3 invariant-loop decreases-loop
+same-length-3 : tie.Need-shape_of-d invariant-loop decreases-loop
 same-length-3 c = search rules
 
-returns-3 : tie.Need-returns-3 invariant-loop decreases-loop
+returns-3 : tie.Need-returns invariant-loop decreases-loop
 returns-3 c =
     let a = c.before.before.before.before.before.before.before.before.args in
-    copy_none a.n a.s.now a.p _ c.before.loop.i (a.q + c.before.loop.i) c.before.loop.d c.before.loop.invariant.0 (omega arith)
+    copy_none a.n a.s.now a.p _ c.before.loop-i.i (a.q + c.before.loop-i.i) c.before.loop-i.d c.before.loop-i.invariant.0 (omega arith)
 
 pub copy_spec : {M : Type 1} → statement M
 copy_spec =

@@ -7,11 +7,11 @@ use Rattle.octets.proofs.Put.{room-same}
 use Rattle.octets.proofs.has_room.Statement.{statement}
 use Rattle.octets.proofs.has_room.Tie as tie
 
-returns : tie.Need-returns
-returns c = sym (lt-leb (c.before.args.at + c.before.args.n) c.before.args.len (omega (arith, c.if1.true)))
+returns : tie.Need-returns-then-len-at
+returns c = sym (lt-leb (c.before.args.at + c.before.args.n) c.before.args.len (omega (arith, c.if-len-at.true)))
 
-returns-2 : tie.Need-returns-2
-returns-2 c = room-same c.before.args.len c.before.args.at c.before.args.n c.if1.false
+returns-2 : tie.Need-returns
+returns-2 c = room-same c.before.args.len c.before.args.at c.before.args.n c.if-len-at.false
 
-pub has-room-spec : {M : Type 1} → statement M
-has-room-spec = tie.close (tie.spec returns returns-2)
+pub has_room_spec : {M : Type 1} → statement M
+has_room_spec = tie.close (tie.spec returns returns-2)

@@ -6,20 +6,20 @@ use lib.ListN.{get_or-eq_default}
 use Rattle.octets.proofs.word_at.Statement.{statement}
 use Rattle.octets.proofs.word_at.Tie as tie
 
-mul-result : tie.Need-overflow-mul-result
+mul-result : tie.Need-offset_bounds-s-i
 mul-result c = search rules
 
-shared-slice-read-result : tie.Need-shared-slice-read-result
+shared-slice-read-result : tie.Need-bounds-s-i
 shared-slice-read-result c = search rules
 
-cast-result : tie.Need-overflow-cast-result
-cast-result c = omega (arith, c.shared-slice-known.given c.before.before.args.i)
+cast-result : tie.Need-overflow_cast-result
+cast-result c = omega (arith, c.shared_slice_known-1.given c.before.before.args.i)
 
-returns : tie.Need-returns
-returns c = (search rules, omega (arith, c.shared-slice-known.given c.before.before.args.i))
+returns : tie.Need-returns-then-i-s
+returns c = (search rules, omega (arith, c.shared_slice_known-1.given c.before.before.args.i))
 
-returns-2 : tie.Need-returns-2
-returns-2 c = (sym (get_or-eq_default c.before.args.s.now 0 c.if1.false), search rules)
+returns-2 : tie.Need-returns-else-i-s
+returns-2 c = (sym (get_or-eq_default c.before.args.s.now 0 c.if-i-s.false), search rules)
 
-pub word-at-spec : {M : Type 1} → statement M
-word-at-spec = tie.close (tie.spec mul-result shared-slice-read-result cast-result returns returns-2)
+pub word_at_spec : {M : Type 1} → statement M
+word_at_spec = tie.close (tie.spec mul-result shared-slice-read-result cast-result returns returns-2)

@@ -8,7 +8,7 @@ ghost use Rattle.items.specs.Items.{WeightAt, FirstMove, held_in, PartsAt, First
 
 // What is read of an item's record: the counts of its commands each way, the places where they and the two masks stand, and the place past the record.
 // `phi` and `psi` read the masks.
-#[derive(Drop)]
+#[derive(Clone, Copy)]
 pub struct Parts {
     pub k: usize,
     pub r: usize,

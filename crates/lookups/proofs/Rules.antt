@@ -50,10 +50,5 @@ module _ {d : DeviceRule} {s k : ℕ} where
   pub one-mask : {v w : ℕ} → OutcomesOf d s k v → OutcomesOf d s k w → v ≡ w
   one-mask {v} {w} a b = ext_in v w (λ t h. (b.states t).1 ((a.states t).0 h)) (λ t h. (a.states t).1 ((b.states t).0 h))
 
-module _ {d : DeviceRule} {f : ℕ → ℕ → ℕ} (all : WorksOutAll d f) where
-  pub works : WorksOut d f
-  works s k hs hk = all s k
-
-  -- a mask of the rule's outcomes is the one that its function gives
-  pub is-mask : {s k w : ℕ} → OutcomesOf d s k w → w ≡ f s k
-  is-mask {s} {k} h = one-mask h (all s k)
+pub works : {d : DeviceRule} {f : ℕ → ℕ → ℕ} → WorksOutAll d f → WorksOut d f
+works all s k hs hk = all s k

@@ -1,5 +1,6 @@
 // What the lookups of all devices share: the answer, and a state's row of a constant table.
 #![tactic(auto)]
+
 ghost use Rattle.std.specs.Prelude.{◌≡◌, ◌≤◌, ◌<◌, get_or};
 ghost use Rattle.base.specs.Tables.{cell, RowBy};
 ghost use Rattle.lookups.specs.Computed.{answer_of};

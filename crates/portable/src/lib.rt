@@ -1,5 +1,6 @@
 // The portable relay's constant table and its lookup (02, CR 1).
 #![tactic(auto)]
+
 mod masks;
 mod rows;
 

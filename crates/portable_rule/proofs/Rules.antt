@@ -6,7 +6,8 @@ use native.Mathlib.Omega.{arith}
 use borrow.Author.Tests.{leb-true, leb-false, eqb-true, eqb-false}
 use Rattle.lookups.specs.Rules.{WorksOut, LeadsInside}
 use Rattle.lookups.specs.Computed.{WorksOutAll}
-use Rattle.lookups.proofs.Rules.{of_pick, works, is-mask}
+use Rattle.lookups.proofs.Rules.{of_pick, works}
+use Rattle.lookups.proofs.Exactly.{is-mask}
 use Rattle.portable_rule.specs.Portable.{portable, mode}
 use Rattle.portable_rule.specs.Computed.{rule_mask}
 use Rattle.portable_rule.proofs.Cases.{inverse, by_standby, by_relay, by_power, by_set_relay, by_set_standby, by_none}

@@ -1,5 +1,6 @@
 // The portable relay's rule (02, CR 1).
 #![tactic(auto)]
+
 ghost use Rattle.std.specs.Prelude.{◌≡◌, ◌<◌};
 ghost use Rattle.portable_rule.specs.Computed.{single, rule_mask};
 

@@ -7,7 +7,8 @@ use borrow.Author.Tests.{leb-true, leb-false, ltb-true, ltb-false, eqb-true, eqb
 use Rattle.base.specs.Tests.{pick}
 use Rattle.lookups.specs.Rules.{OutcomesOf, WorksOut, LeadsInside}
 use Rattle.lookups.specs.Computed.{WorksOutAll}
-use Rattle.lookups.proofs.Rules.{of_pick, works, is-mask}
+use Rattle.lookups.proofs.Rules.{of_pick, works}
+use Rattle.lookups.proofs.Exactly.{is-mask}
 use Rattle.ridge_rule.specs.Ridge.{ridge}
 use Rattle.ridge_rule.specs.Computed.{rule_mask}
 use Rattle.ridge_rule.proofs.Cases.{inverse, by_standby, by_relay, by_power, by_mode, by_lock, by_unlock, by_any, by_up, by_down, Else, all_else}

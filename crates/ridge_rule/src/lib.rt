@@ -1,5 +1,6 @@
 // The ridge repeater's rule (01, "The ridge repeater").
 #![tactic(auto)]
+
 ghost use Rattle.std.specs.Prelude.{◌≡◌, ◌<◌};
 ghost use Rattle.ridge_rule.specs.Computed.{single, rule_mask};
 

@@ -9,29 +9,29 @@ use Rattle.items.proofs.kind_at.Tie as tie
 use Rattle.items.proofs.kind_at.Reads as reads
 use Rattle.items.proofs.kind_at.Lts as lts
 
-add_low : tie.Need-overflow-add-low
+add_low : tie.Need-overflow_add-low
 add_low c = search rules
 
-shared-slice-read-low : tie.Need-shared-slice-read-low
+shared-slice-read-low : tie.Need-bounds-book-at
 shared-slice-read-low c = search rules
 
-cast-low : tie.Need-overflow-cast-low
-cast-low c = omega (arith, c.shared-slice-known.given (c.before.args.at + 2))
+cast-low : tie.Need-overflow_cast-low
+cast-low c = omega (arith, c.shared_slice_known-1.given (c.before.args.at + 2))
 
-add-high : tie.Need-overflow-add-high
+add-high : tie.Need-overflow_add-high
 add-high c = search rules
 
-shared-slice-read-high : tie.Need-shared-slice-read-high
+shared-slice-read-high : tie.Need-bounds-book-at-2
 shared-slice-read-high c = search rules
 
-cast-high : tie.Need-overflow-cast-high
-cast-high c = omega (arith, c.shared-slice-known2.given (c.before.before.args.at + 3))
+cast-high : tie.Need-overflow_cast-high
+cast-high c = omega (arith, c.shared_slice_known-2-1.given (c.before.before.args.at + 3))
 
-mul-result : tie.Need-overflow-mul-result
-mul-result c = let a = c.before.before.args in omega (arith, c.shared-slice-known2.given (a.at + 3))
+mul-result : tie.Need-overflow_mul-result
+mul-result c = let a = c.before.before.args in omega (arith, c.shared_slice_known-2-1.given (a.at + 3))
 
-add-result : tie.Need-overflow-add-result
-add-result c = let a = c.before.before.args in omega (arith, c.before.shared-slice-known.given (a.at + 2), c.shared-slice-known2.given (a.at + 3))
+add-result : tie.Need-overflow_add-result
+add-result c = let a = c.before.before.args in omega (arith, c.before.shared_slice_known-1.given (a.at + 2), c.shared_slice_known-2-1.given (a.at + 3))
 
 returns : tie.Need-returns
 returns c =
@@ -39,8 +39,8 @@ returns c =
     let e : a.at + 3 ≡ a.at + 2 + 1 = omega arith in
     rw e (sym (le2 a.book.now (a.at + 2)))
 
-pub kind-at-spec : {M : Type 1} → statement M
-kind-at-spec =
+pub kind_at_spec : {M : Type 1} → statement M
+kind_at_spec =
     tie.close
     (tie.spec
     add_low

@@ -8,40 +8,40 @@ use Rattle.items.proofs.parts_at.Lts as lts
 use Rattle.octets.proofs.byte_at.Reads as byte-at-reads
 
 -- past the end no item stands
-returns : tie.Need-returns
-returns c = parts_none _ _ c.if1.true
+returns : tie.Need-returns-then-book-at
+returns c = parts_none _ _ c.if-book-at.true
 
-add-byte-at : tie.Need-overflow-add-byte-at
+add-byte-at : tie.Need-overflow_add-at
 add-byte-at c = search rules
 
-byte-at-requires : tie.Need-byte-at-requires
+byte-at-requires : tie.Need-byte_at-k-requires
 byte-at-requires c κs = search rules
 
-add-byte-at-2 : tie.Need-overflow-add-byte-at-2
+add-byte-at-2 : tie.Need-overflow_add-at-2
 add-byte-at-2 c = search rules
 
-byte-at-requires-2 : tie.Need-byte-at-requires-2
+byte-at-requires-2 : tie.Need-byte_at-r-requires
 byte-at-requires-2 c κs = search rules
 
-add-forward : tie.Need-overflow-add-forward
+add-forward : tie.Need-overflow_add-forward
 add-forward c = search rules
 
-add-reverse : tie.Need-overflow-add-reverse
+add-reverse : tie.Need-overflow_add-reverse
 add-reverse c = search rules
 
-add-masks : tie.Need-overflow-add-masks
+add-masks : tie.Need-overflow_add-masks
 add-masks c = search rules
 
-add-next : tie.Need-overflow-add-next
+add-next : tie.Need-overflow_add-next
 add-next c = search rules
 
-returns-2 : tie.Need-returns-2
+returns-2 : tie.Need-returns
 returns-2 c =
     let a = c.before.before.before.before.args in
-    read_parts a.book.now a.at _ _ c.before.byte_at.ensures.0 c.byte-at2.ensures.0 c.before.byte_at.ensures.1 c.byte-at2.ensures.1
+    read_parts a.book.now a.at _ _ c.before.byte_at-k.ensures.0 c.byte_at-r.ensures.0 c.before.byte_at-k.ensures.1 c.byte_at-r.ensures.1
 
-pub parts-at-spec : {M : Type 1} → statement M
-parts-at-spec =
+pub parts_at_spec : {M : Type 1} → statement M
+parts_at_spec =
     tie.close
     (tie.spec
     returns

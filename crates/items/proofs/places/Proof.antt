@@ -14,61 +14,61 @@ use Rattle.items.proofs.places.Lts as lts
 use Rattle.items.proofs.first_item.Reads as first-item-reads
 use Rattle.items.proofs.parts_at.Reads as parts-at-reads
 
-abbrev invariant-loop : tie.invariant-loop
+abbrev invariant-loop : tie.invariant-loop-i
 invariant-loop book places₀ at₀ i₀ places at i =
     (i ≤ 64) × (length places ≡ 64) × ((b : Book) → AllowedBook b → bytes_of b ≡ book → Passed book b places i at)
 
-abbrev decreases-loop : tie.decreases-loop
+abbrev decreases-loop : tie.decreases-loop-i
 decreases-loop book places₀ at₀ i₀ places at i = 64 - i
 
 -- no book is so long
-returns : tie.Need-returns invariant-loop decreases-loop
+returns : tie.Need-returns-then-book-gt65535 invariant-loop decreases-loop
 returns c = record { size = refl; begins = λ b a e i h. absurd (omega (arith, length-book b a, ap length e)) }
 
-first-item-requires : tie.Need-first-item-requires invariant-loop decreases-loop
+first-item-requires : tie.Need-first_item-at-requires invariant-loop decreases-loop
 first-item-requires c κs = search rules
 
-loop-holds : tie.Need-loop-init invariant-loop decreases-loop
-loop-holds c = (omega arith, refl, λ b a e. none_passed (c.first-item.ensures.begins b a e))
+loop-holds : tie.Need-loop-i-init invariant-loop decreases-loop
+loop-holds c = (omega arith, refl, λ b a e. none_passed (c.first_item-at.ensures.begins b a e))
 
-returns-2 : tie.Need-returns-2 invariant-loop decreases-loop
+returns-2 : tie.Need-returns-then-book-at invariant-loop decreases-loop
 returns-2 c =
-    let l = c.before.before.loop in
-    record { size = l.invariant.1; begins = λ b a e. ends_passed a e (l.invariant.2 b a e) c.if2.true }
+    let l = c.before.before.loop-i in
+    record { size = l.invariant.1; begins = λ b a e. ends_passed a e (l.invariant.2 b a e) c.if-book-at.true }
 
-cast-places : tie.Need-overflow-cast-places invariant-loop decreases-loop
+cast-places : tie.Need-overflow_cast-places invariant-loop decreases-loop
 cast-places c = search rules
 
-mul-places : tie.Need-overflow-mul-places invariant-loop decreases-loop
+mul-places : tie.Need-offset_bounds-places-i invariant-loop decreases-loop
 mul-places c = search rules
 
-array-write-places : tie.Need-array-write-places invariant-loop decreases-loop
+array-write-places : tie.Need-bounds-places-i invariant-loop decreases-loop
 array-write-places c = search rules
 
-parts-at-requires : tie.Need-parts-at-requires invariant-loop decreases-loop
+parts-at-requires : tie.Need-parts_at-item-requires invariant-loop decreases-loop
 parts-at-requires c κs = search rules
 
-add-i : tie.Need-overflow-add-i invariant-loop decreases-loop
+add-i : tie.Need-overflow_step-i invariant-loop decreases-loop
 add-i c = search rules
 
-loop-less : tie.Need-loop-smaller invariant-loop decreases-loop
+loop-less : tie.Need-loop-i-smaller invariant-loop decreases-loop
 loop-less c = search rules
 
-loop-again : tie.Need-loop-preserved invariant-loop decreases-loop
+loop-again : tie.Need-loop-i-preserved invariant-loop decreases-loop
 loop-again c =
-    let l = c.before.before.before.loop in (
+    let l = c.before.before.before.loop-i in (
       omega arith,
       simp length-set l.invariant.1,
-      λ b a e. one_passed a e (l.invariant.2 b a e) c.parts_at.ensures.next c.before.if2.false (omega arith),
+      λ b a e. one_passed a e (l.invariant.2 b a e) c.parts_at-item.ensures.next c.before.if-book-at.false (omega arith),
     )
 
-returns-3 : tie.Need-returns-3 invariant-loop decreases-loop
+returns-3 : tie.Need-returns invariant-loop decreases-loop
 returns-3 c =
-    let l = c.before.loop in
-    record { size = l.invariant.1; begins = λ b a e. most_passed a e (l.invariant.2 b a e) c.loop-test.false }
+    let l = c.before.loop-i in
+    record { size = l.invariant.1; begins = λ b a e. most_passed a e (l.invariant.2 b a e) c.loop-i-test.false }
 
-pub places-spec : {M : Type 1} → statement M
-places-spec =
+pub places_spec : {M : Type 1} → statement M
+places_spec =
     tie.close
     (tie.spec
     invariant-loop

@@ -9,17 +9,17 @@ use Rattle.items.proofs.psi.Reads as reads
 use Rattle.items.proofs.psi.Lts as lts
 use Rattle.octets.proofs.u64_at.Reads as u64-at-reads
 
-returns : tie.Need-returns
-returns c = let a = c.before.before.before.args in le-past 8 a.book.now (a.item.masks + 8) (omega (arith, c.if1.true))
+returns : tie.Need-returns-then-book-item
+returns c = let a = c.before.before.before.args in le-past 8 a.book.now (a.item.masks + 8) (omega (arith, c.if-book-item.true))
 
-add-u64-at : tie.Need-overflow-add-u64-at
+add-u64-at : tie.Need-overflow_add-item
 add-u64-at c = search rules
 
-u64-at-requires : tie.Need-u64-at-requires
+u64-at-requires : tie.Need-u64_at-requires
 u64-at-requires c κs = search rules
 
-returns-2 : tie.Need-returns-2
+returns-2 : tie.Need-returns
 returns-2 c = search rules
 
-pub psi-spec : {M : Type 1} → statement M
-psi-spec = tie.close (tie.spec returns add-u64-at u64-at-requires returns-2)
+pub psi_spec : {M : Type 1} → statement M
+psi_spec = tie.close (tie.spec returns add-u64-at u64-at-requires returns-2)

@@ -12,43 +12,43 @@ use Rattle.limits.proofs.all_below.Reads as reads
 use Rattle.limits.proofs.all_below.Lts as lts
 use Rattle.octets.proofs.byte_at.Reads as byte-at-reads
 
-abbrev invariant-loop : tie.invariant-loop
+abbrev invariant-loop : tie.invariant-loop-i
 invariant-loop commands m i₀ i-end i = (all_below m (drop i commands) ≡ all_below m commands) × (i ≤ length commands)
 
-abbrev decreases-loop : tie.decreases-loop
+abbrev decreases-loop : tie.decreases-loop-i
 decreases-loop commands m i₀ i-end i = length commands - i
 
-loop-holds : tie.Need-loop-init invariant-loop decreases-loop
+loop-holds : tie.Need-loop-i-init invariant-loop decreases-loop
 loop-holds c = (refl, omega arith)
 
-byte-at-requires : tie.Need-byte-at-requires invariant-loop decreases-loop
+byte-at-requires : tie.Need-byte_at-requires invariant-loop decreases-loop
 byte-at-requires c κs = search rules
 
-returns : tie.Need-returns invariant-loop decreases-loop
+returns : tie.Need-returns-then-m-byte_at invariant-loop decreases-loop
 returns c =
     let a = c.before.before.before.before.before.args in
-    below_stop a.m a.commands.now c.before.before.before.loop.i c.before.byte_at.result c.before.before.before.loop.invariant.0 (omega arith) c.before.byte_at.ensures.0
+    below_stop a.m a.commands.now c.before.before.before.loop-i.i c.before.byte_at.result c.before.before.before.loop-i.invariant.0 (omega arith) c.before.byte_at.ensures.0
     (omega arith)
 
-add-i : tie.Need-overflow-add-i invariant-loop decreases-loop
+add-i : tie.Need-overflow_step-i invariant-loop decreases-loop
 add-i c = omega arith
 
-loop-less : tie.Need-loop-smaller invariant-loop decreases-loop
+loop-less : tie.Need-loop-i-smaller invariant-loop decreases-loop
 loop-less c = omega arith
 
-loop-again : tie.Need-loop-preserved invariant-loop decreases-loop
+loop-again : tie.Need-loop-i-preserved invariant-loop decreases-loop
 loop-again c =
     let a = c.before.before.before.before.before.args in (
-      below_again a.m a.commands.now c.before.before.before.loop.i c.before.byte_at.result c.before.before.before.loop.invariant.0 (omega arith) c.before.byte_at.ensures.0
+      below_again a.m a.commands.now c.before.before.before.loop-i.i c.before.byte_at.result c.before.before.before.loop-i.invariant.0 (omega arith) c.before.byte_at.ensures.0
           (omega arith),
       omega arith,
     )
 
-returns-2 : tie.Need-returns-2 invariant-loop decreases-loop
-returns-2 c = below_done c.before.before.before.args.m c.before.before.before.args.commands.now c.before.loop.i c.before.loop.invariant.0 (omega arith)
+returns-2 : tie.Need-returns invariant-loop decreases-loop
+returns-2 c = below_done c.before.before.before.args.m c.before.before.before.args.commands.now c.before.loop-i.i c.before.loop-i.invariant.0 (omega arith)
 
-pub all-below-spec : {M : Type 1} → statement M
-all-below-spec =
+pub all_below_spec : {M : Type 1} → statement M
+all_below_spec =
     tie.close
     (tie.spec
     invariant-loop

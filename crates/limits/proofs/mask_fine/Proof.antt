@@ -5,14 +5,14 @@ use borrow.Author.Rules.{rules}
 use Rattle.limits.proofs.mask_fine.Statement.{statement}
 use Rattle.limits.proofs.mask_fine.Tie as tie
 
-shr-result : tie.Need-overflow-shr-result
+shr-result : tie.Need-overflow_shr-result
 shr-result c = search rules
 
-returns : tie.Need-returns
+returns : tie.Need-returns-then-n-lt64
 returns c = shr_zero _ _
 
-returns-2 : tie.Need-returns-2
-returns-2 c = sym (word_clear _ _ c.if1.false (search rules))
+returns-2 : tie.Need-returns-else-n-lt64
+returns-2 c = sym (word_clear _ _ c.if-n-lt64.false (search rules))
 
-pub mask-fine-spec : {M : Type 1} → statement M
-mask-fine-spec = tie.close (tie.spec shr-result returns returns-2)
+pub mask_fine_spec : {M : Type 1} → statement M
+mask_fine_spec = tie.close (tie.spec shr-result returns returns-2)

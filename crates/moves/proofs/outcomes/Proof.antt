@@ -8,35 +8,35 @@ use Rattle.moves.proofs.outcomes.Lts as lts
 use Rattle.moves.proofs.count_below.Reads as count-below-reads
 use Rattle.octets.proofs.whole_at.Reads as whole-at-reads
 
-returns : tie.Need-returns
-returns c = no_command _ _ _ c.if1.true (search rules)
+returns : tie.Need-returns-then-command-ge48
+returns c = no_command _ _ _ c.if-command-ge48.true (search rules)
 
-add-if2 : tie.Need-overflow-add-if2
+add-if2 : tie.Need-overflow_add-command
 add-if2 c = search rules
 
-shr-if2 : tie.Need-overflow-shr-if2
+shr-if2 : tie.Need-overflow_shr-row
 shr-if2 c = search rules
 
-returns-2 : tie.Need-returns-2
-returns-2 c = not_found _ _ _ c.if2.true
+returns-2 : tie.Need-returns-then-row-command-ne1
+returns-2 c = not_found _ _ _ c.if-row-command-ne1.true
 
-count-below-requires : tie.Need-count-below-requires
+count-below-requires : tie.Need-count_below-before-requires
 count-below-requires c κs = search rules
 
-mul-whole-at : tie.Need-overflow-mul-whole-at
+mul-whole-at : tie.Need-overflow_mul-before
 mul-whole-at c = search rules
 
-add-whole-at : tie.Need-overflow-add-whole-at
+add-whole-at : tie.Need-overflow_add-row
 add-whole-at c = search rules
 
-whole-at-requires : tie.Need-whole-at-requires
+whole-at-requires : tie.Need-whole_at-requires
 whole-at-requires c κs = search rules
 
-returns-3 : tie.Need-returns-3
-returns-3 c = found _ _ _ _ _ c.before.before.if2.false c.before.count-below.ensures.0 c.whole-at.ensures
+returns-3 : tie.Need-returns
+returns-3 c = found _ _ _ _ _ c.before.before.if-row-command-ne1.false c.before.count_below-before.ensures.0 c.whole_at.ensures
 
-pub outcomes-spec : {M : Type 1} → statement M
-outcomes-spec =
+pub outcomes_spec : {M : Type 1} → statement M
+outcomes_spec =
     tie.close
     (tie.spec
     returns

@@ -6,17 +6,17 @@ use Rattle.moves.proofs.with_move.Tie as tie
 use Rattle.moves.proofs.with_move.Reads as reads
 use Rattle.moves.proofs.with_move.Lts as lts
 
-add-bit : tie.Need-overflow-add-bit
+add-bit : tie.Need-overflow_add-bit
 add-bit c = search rules
 
-shl-bit : tie.Need-overflow-shl-bit
+shl-bit : tie.Need-overflow_shl-bit
 shl-bit c = search rules
 
-returns : tie.Need-returns
-returns c = row-begun _ _ _ c.before.requires c.if1.true
+returns : tie.Need-returns-then-row-lt65536
+returns c = row-begun _ _ _ c.before.requires c.if-row-lt65536.true
 
-returns-2 : tie.Need-returns-2
-returns-2 c = row_more _ _ _ c.before.requires c.if1.false
+returns-2 : tie.Need-returns
+returns-2 c = row_more _ _ _ c.before.requires c.if-row-lt65536.false
 
-pub with-move-spec : {M : Type 1} → statement M
-with-move-spec = tie.close (tie.spec add-bit shl-bit returns returns-2)
+pub with_move_spec : {M : Type 1} → statement M
+with_move_spec = tie.close (tie.spec add-bit shl-bit returns returns-2)

@@ -17,55 +17,55 @@ use Rattle.runs.proofs.put_percepts.Reads as reads
 use Rattle.runs.proofs.put_percepts.Lts as lts
 use Rattle.octets.proofs.put_le.Reads as put-le-reads
 
-abbrev invariant-loop : tie.invariant-loop
+abbrev invariant-loop : tie.invariant-loop-j
 invariant-loop k percepts out₀ at j₀ out j =
     (sets out (at + 8 * j) (masks_bytes (piece (k - j) percepts j)) ≡ sets out₀ at (masks_bytes (piece k percepts 0))) × (length out ≡ length out₀) × (j ≤ k)
 
-abbrev decreases-loop : tie.decreases-loop
+abbrev decreases-loop : tie.decreases-loop-j
 decreases-loop k percepts out₀ at j₀ out j = k - j
 
-loop-holds : tie.Need-loop-init invariant-loop decreases-loop
+loop-holds : tie.Need-loop-j-init invariant-loop decreases-loop
 loop-holds c = (rw (sub-zero, add-zero), search rules, omega arith)
 
-mul-put-le : tie.Need-overflow-mul-put-le invariant-loop decreases-loop
+mul-put-le : tie.Need-offset_bounds-percepts-j invariant-loop decreases-loop
 mul-put-le c = omega arith
 
-shared-slice-read-put-le : tie.Need-shared-slice-read-put-le invariant-loop decreases-loop
+shared-slice-read-put-le : tie.Need-bounds-percepts-j invariant-loop decreases-loop
 shared-slice-read-put-le c = omega arith
 
-mul-put-le-2 : tie.Need-overflow-mul-put-le-2 invariant-loop decreases-loop
+mul-put-le-2 : tie.Need-overflow_mul-j invariant-loop decreases-loop
 mul-put-le-2 c = omega arith
 
-add-put-le : tie.Need-overflow-add-put-le invariant-loop decreases-loop
+add-put-le : tie.Need-overflow_add-at invariant-loop decreases-loop
 add-put-le c = omega arith
 
-put-le-requires : tie.Need-put-le-requires invariant-loop decreases-loop
+put-le-requires : tie.Need-put_le-requires invariant-loop decreases-loop
 put-le-requires c κs = search rules
 
-add-j : tie.Need-overflow-add-j invariant-loop decreases-loop
+add-j : tie.Need-overflow_step-j invariant-loop decreases-loop
 add-j c = omega arith
 
-loop-less : tie.Need-loop-smaller invariant-loop decreases-loop
+loop-less : tie.Need-loop-j-smaller invariant-loop decreases-loop
 loop-less c = omega arith
 
-loop-again : tie.Need-loop-preserved invariant-loop decreases-loop
+loop-again : tie.Need-loop-j-preserved invariant-loop decreases-loop
 loop-again c =
     let a = c.before.before.before.before.before.before.before.before.before.args in
-    let v = c.before.before.before.before.before.before.loop in (
-      rows_again (percept_rows a.percepts.now) a.k v.j _ _ _ (a.at + 8 * v.j) _ v.invariant.0 c.before.before.before.before.before.loop-test.true
-          c.before.before.put-le.ensures (omega (arith, length-bytes_le 8 (get_or a.percepts.now v.j 0))),
+    let v = c.before.before.before.before.before.before.loop-j in (
+      rows_again (percept_rows a.percepts.now) a.k v.j _ _ _ (a.at + 8 * v.j) _ v.invariant.0 c.before.before.before.before.before.loop-j-test.true
+          c.before.before.put_le.ensures (omega (arith, length-bytes_le 8 (get_or a.percepts.now v.j 0))),
       search rules,
       omega arith,
     )
 
-same_length : tie.Need-same-length invariant-loop decreases-loop
+same_length : tie.Need-shape_of-out invariant-loop decreases-loop
 same_length c = search rules
 
 returns : tie.Need-returns invariant-loop decreases-loop
-returns c = rows_done (percept_rows _) _ _ _ _ _ c.before.loop.invariant.0 c.loop-test.false
+returns c = rows_done (percept_rows _) _ _ _ _ _ c.before.loop-j.invariant.0 c.loop-j-test.false
 
-pub put-percepts-spec : {M : Type 1} → statement M
-put-percepts-spec =
+pub put_percepts_spec : {M : Type 1} → statement M
+put_percepts_spec =
     tie.close
     (tie.spec
     invariant-loop

@@ -10,34 +10,34 @@ use Rattle.octets.proofs.copy.Reads as copy-reads
 use Rattle.octets.proofs.put_le.Reads as put-le-reads
 use Rattle.runs.proofs.put_percepts.Reads as put-percepts-reads
 
-mul-put-le : tie.Need-overflow-mul-put-le
+mul-put-le : tie.Need-overflow_mul-i
 mul-put-le c = search rules
 
-add-put-le : tie.Need-overflow-add-put-le
+add-put-le : tie.Need-overflow_add-i
 add-put-le c = search rules
 
-put-le-requires : tie.Need-put-le-requires
+put-le-requires : tie.Need-put_le-requires
 put-le-requires c κs = search rules
 
-put-le-requires-2 : tie.Need-put-le-requires-2
+put-le-requires-2 : tie.Need-put_le-requires-2
 put-le-requires-2 c κs = search rules
 
-put-le-requires-3 : tie.Need-put-le-requires-3
+put-le-requires-3 : tie.Need-put_le-requires-3
 put-le-requires-3 c κs = search rules
 
 copy-requires : tie.Need-copy-requires
 copy-requires c κs = search rules
 
-add-put-percepts : tie.Need-overflow-add-put-percepts
+add-put-percepts : tie.Need-overflow_add-i-2
 add-put-percepts c = search rules
 
-add-put-percepts-2 : tie.Need-overflow-add-put-percepts-2
+add-put-percepts-2 : tie.Need-overflow_add-i-3
 add-put-percepts-2 c = search rules
 
-put-percepts-requires : tie.Need-put-percepts-requires
+put-percepts-requires : tie.Need-put_percepts-requires
 put-percepts-requires c κs = search rules
 
-same_length : tie.Need-same-length
+same_length : tie.Need-shape_of-out
 same_length c = search rules
 
 returns : tie.Need-returns
@@ -49,14 +49,14 @@ returns c =
     let x = y.before.before.before.before in
     let p = x.before.before.before.before.before in
     run-written p.args.i p.args.commands.now p.args.percepts.now p.requires.0 p.requires.1 p.requires.2 _ _ _ _ _ _
-    x.put-le.ensures
-    y.put-le2.ensures
-    i.put-le3.ensures
+    x.put_le.ensures
+    y.put_le-2.ensures
+    i.put_le-3.ensures
     k.copy.ensures
-    w.put-percepts.ensures
+    w.put_percepts.ensures
 
-pub put-run-spec : {M : Type 1} → statement M
-put-run-spec =
+pub put_run_spec : {M : Type 1} → statement M
+put_run_spec =
     tie.close
     (tie.spec
     mul-put-le

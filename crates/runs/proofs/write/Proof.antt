@@ -12,35 +12,35 @@ use Rattle.runs.proofs.write.Reads as reads
 use Rattle.runs.proofs.write.Lts as lts
 use Rattle.runs.proofs.put_run.Reads as put-run-reads
 
-returns : tie.Need-returns
+returns : tie.Need-returns-then-count-gt32
 unfolding if_written
 returns c = (search tests depth 6, (search tests depth 6, search rules))
 
-returns-2 : tie.Need-returns-2
+returns-2 : tie.Need-returns-then-commands-count
 unfolding if_written
 returns-2 c = (search tests depth 6, (search tests depth 6, search rules))
 
-returns-3 : tie.Need-returns-3
+returns-3 : tie.Need-returns-then-percepts-count
 unfolding if_written
 returns-3 c = (search tests depth 6, (search tests depth 6, search rules))
 
-returns-4 : tie.Need-returns-4
+returns-4 : tie.Need-returns-then-out-lt301
 unfolding if_written
 returns-4 c = (search tests depth 6, (search tests depth 6, search rules))
 
-put-run-requires : tie.Need-put-run-requires
+put-run-requires : tie.Need-put_run-requires
 put-run-requires c κs = search rules
 
-mul-result : tie.Need-overflow-mul-result
+mul-result : tie.Need-overflow_mul-result
 mul-result c = search rules
 
-add-result : tie.Need-overflow-add-result
+add-result : tie.Need-overflow_add-result
 add-result c = search rules
 
-same_length : tie.Need-same-length
+same_length : tie.Need-shape_of-out
 same_length c = search rules
 
-returns-5 : tie.Need-returns-5
+returns-5 : tie.Need-returns
 returns-5 c =
     let a = c.before.before.before.before.before.before.before.before.before.before.before.args in
     let long : 301 ≤ length a.out.now = omega arith in (
@@ -48,7 +48,7 @@ returns-5 c =
           (length-written a.count a.commands.now a.percepts.now (omega arith) (omega arith) (omega arith)),
       (
         fine-written a.count a.commands.now a.percepts.now (omega arith) (omega arith) (omega arith) _ a.out.now a.out.now long
-            c.before.before.put-run.ensures,
+            c.before.before.put_run.ensures,
         omega arith,
       ),
     )

@@ -4,17 +4,17 @@ use borrow.Author.Rules.{rules}
 use Rattle.slots.proofs.fine.Statement.{statement}
 use Rattle.slots.proofs.fine.Tie as tie
 
-fine-by-words-requires : tie.Need-fine-by-words-requires
+fine-by-words-requires : tie.Need-fine_by_words-requires
 fine-by-words-requires c κs = search rules
 
-returns : tie.Need-returns
-returns c = sym (c.before.fine-by-words.ensures c.if1.true)
+returns : tie.Need-returns-then-fine_by_words
+returns c = sym (c.before.fine_by_words.ensures c.if-fine_by_words.true)
 
-fine-by-bytes-requires : tie.Need-fine-by-bytes-requires
+fine-by-bytes-requires : tie.Need-fine_by_bytes-requires
 fine-by-bytes-requires c κs = search rules
 
-returns-2 : tie.Need-returns-2
+returns-2 : tie.Need-returns
 returns-2 c = search rules
 
-pub fine-spec : {M : Type 1} → statement M
-fine-spec = tie.close (tie.spec fine-by-words-requires returns fine-by-bytes-requires returns-2)
+pub fine_spec : {M : Type 1} → statement M
+fine_spec = tie.close (tie.spec fine-by-words-requires returns fine-by-bytes-requires returns-2)

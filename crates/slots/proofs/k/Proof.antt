@@ -7,14 +7,14 @@ use Rattle.slots.proofs.k.Reads as reads
 use Rattle.slots.proofs.k.Lts as lts
 use Rattle.octets.proofs.byte_at.Reads as byte-at-reads
 
-mul-byte-at : tie.Need-overflow-mul-byte-at
+mul-byte-at : tie.Need-overflow_mul-a
 mul-byte-at c = search rules
 
-byte-at-requires : tie.Need-byte-at-requires
+byte-at-requires : tie.Need-byte_at-requires
 byte-at-requires c κs = search rules
 
 returns : tie.Need-returns
 returns c = (k_is _ _ _ c.byte_at.ensures.0, c.byte_at.ensures.1)
 
-pub k-spec : {M : Type 1} → statement M
-k-spec = tie.close (tie.spec mul-byte-at byte-at-requires returns)
+pub k_spec : {M : Type 1} → statement M
+k_spec = tie.close (tie.spec mul-byte-at byte-at-requires returns)

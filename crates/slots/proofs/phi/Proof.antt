@@ -7,18 +7,18 @@ use Rattle.slots.proofs.phi.Reads as reads
 use Rattle.slots.proofs.phi.Lts as lts
 use Rattle.octets.proofs.u64_at.Reads as u64-at-reads
 
-mul-u64-at : tie.Need-overflow-mul-u64-at
+mul-u64-at : tie.Need-overflow_mul-a
 mul-u64-at c = search rules
 
-add-u64-at : tie.Need-overflow-add-u64-at
+add-u64-at : tie.Need-overflow_add-a
 add-u64-at c = search rules
 
-u64-at-requires : tie.Need-u64-at-requires
+u64-at-requires : tie.Need-u64_at-requires
 u64-at-requires c κs = search rules
 
 returns : tie.Need-returns
 unfolding item_at
-returns c = c.u64-at.ensures
+returns c = c.u64_at.ensures
 
-pub phi-spec : {M : Type 1} → statement M
-phi-spec = tie.close (tie.spec mul-u64-at add-u64-at u64-at-requires returns)
+pub phi_spec : {M : Type 1} → statement M
+phi_spec = tie.close (tie.spec mul-u64-at add-u64-at u64-at-requires returns)

@@ -12,64 +12,64 @@ use Rattle.items.proofs.psi.Reads as psi-reads
 use Rattle.octets.proofs.put_le.Reads as put-le-reads
 use Rattle.slots.proofs.commands_at.Reads as commands-at-reads
 
-parts-at-requires : tie.Need-parts-at-requires
+parts-at-requires : tie.Need-parts_at-item-requires
 parts-at-requires c κs = search rules
 
-returns : tie.Need-returns
-returns c = none_filled c.before.before.parts_at.ensures _ 0 (λ h l. omega arith)
+returns : tie.Need-returns-then-item-gt8
+returns c = none_filled c.before.before.parts_at-item.ensures _ 0 (λ h l. omega arith)
 
-returns-2 : tie.Need-returns-2
-returns-2 c = none_filled c.before.before.before.before.parts_at.ensures _ 0 (λ h l. omega arith)
+returns-2 : tie.Need-returns-then-item-gt8-2
+returns-2 c = none_filled c.before.before.before.before.parts_at-item.ensures _ 0 (λ h l. omega arith)
 
-commands-at-requires : tie.Need-commands-at-requires
+commands-at-requires : tie.Need-commands_at-forward-requires
 commands-at-requires c κs = search rules
 
-commands-at-requires-2 : tie.Need-commands-at-requires-2
+commands-at-requires-2 : tie.Need-commands_at-reverse-requires
 commands-at-requires-2 c κs = search rules
 
-phi-requires : tie.Need-phi-requires
+phi-requires : tie.Need-phi-phi-requires
 phi-requires c κs = search rules
 
-psi-requires : tie.Need-psi-requires
+psi-requires : tie.Need-psi-psi-requires
 psi-requires c κs = search rules
 
-mul-put-le : tie.Need-overflow-mul-put-le
+mul-put-le : tie.Need-overflow_mul-item
 mul-put-le c = search rules
 
-add-put-le : tie.Need-overflow-add-put-le
+add-put-le : tie.Need-overflow_add-item
 add-put-le c = search rules
 
-put-le-requires : tie.Need-put-le-requires
+put-le-requires : tie.Need-put_le-requires
 put-le-requires c κs = search rules
 
-put-le-requires-2 : tie.Need-put-le-requires-2
+put-le-requires-2 : tie.Need-put_le-requires-2
 put-le-requires-2 c κs = search rules
 
-put-le-requires-3 : tie.Need-put-le-requires-3
+put-le-requires-3 : tie.Need-put_le-requires-3
 put-le-requires-3 c κs = search rules
 
-put-le-requires-4 : tie.Need-put-le-requires-4
+put-le-requires-4 : tie.Need-put_le-requires-4
 put-le-requires-4 c κs = search rules
 
-put-le-requires-5 : tie.Need-put-le-requires-5
+put-le-requires-5 : tie.Need-put_le-requires-5
 put-le-requires-5 c κs = search rules
 
-same_length : tie.Need-same-length
+same_length : tie.Need-shape_of-slot
 same_length c = search rules
 
-returns-3 : tie.Need-returns-3
+returns-3 : tie.Need-returns
 returns-3 c =
     let tail = c.before.before in
     let head = tail.before.before.before.before.before.before.before.before.before.before.before.before in
     let read = head.before.before.before.before.before.before.before.before in
-    let parts = read.before.before.before.before.before.before.before.before.parts_at in
-    let k = read.before.before.before.before.before.before.if1.false in
-    let r = read.before.before.before.before.if2.false in
-    item-filled parts.ensures _ 0 _ _ read.before.phi.ensures read.psi.ensures _ _ k
-    (head_put _ _ _ 0 _ _ _ _ parts.result.k k r read.before.before.before.commands-at.ensures head.before.before.before.before.put-le.ensures
-    head.put-le2.ensures)
-    (tail_put _ _ _ 10 _ _ _ _ _ _ _ read.before.before.commands-at2.ensures tail.before.before.before.before.before.before.before.before.put-le3.ensures tail.before.before.before.before.put-le4.ensures
-    tail.put-le5.ensures)
+    let parts = read.before.before.before.before.before.before.before.before.parts_at-item in
+    let k = read.before.before.before.before.before.before.if-item-gt8.false in
+    let r = read.before.before.before.before.if-item-gt8-2.false in
+    item-filled parts.ensures _ 0 _ _ read.before.phi-phi.ensures read.psi-psi.ensures _ _ k
+    (head_put _ _ _ 0 _ _ _ _ parts.result.k k r read.before.before.before.commands_at-forward.ensures head.before.before.before.before.put_le.ensures
+    head.put_le-2.ensures)
+    (tail_put _ _ _ 10 _ _ _ _ _ _ _ read.before.before.commands_at-reverse.ensures tail.before.before.before.before.before.before.before.before.put_le-3.ensures tail.before.before.before.before.put_le-4.ensures
+    tail.put_le-5.ensures)
 
 pub put_spec : {M : Type 1} → statement M
 put_spec =

@@ -8,32 +8,32 @@ use Rattle.slots.proofs.put_head.Lts as lts
 use Rattle.octets.proofs.put_le.Reads as put-le-reads
 use Rattle.slots.proofs.commands_at.Reads as commands-at-reads
 
-mul-put-le : tie.Need-overflow-mul-put-le
+mul-put-le : tie.Need-overflow_mul-r
 mul-put-le c = search rules
 
-add-put-le : tie.Need-overflow-add-put-le
+add-put-le : tie.Need-overflow_add-k
 add-put-le c = search rules
 
-put-le-requires : tie.Need-put-le-requires
+put-le-requires : tie.Need-put_le-requires
 put-le-requires c κs = search rules
 
-commands-at-requires : tie.Need-commands-at-requires
+commands-at-requires : tie.Need-commands_at-requires
 commands-at-requires c κs = search rules
 
-add-put-le-2 : tie.Need-overflow-add-put-le-2
+add-put-le-2 : tie.Need-overflow_add-q
 add-put-le-2 c = search rules
 
-put-le-requires-2 : tie.Need-put-le-requires-2
+put-le-requires-2 : tie.Need-put_le-requires-2
 put-le-requires-2 c κs = search rules
 
-same_length : tie.Need-same-length
+same_length : tie.Need-shape_of-slots
 same_length c = search rules
 
 returns : tie.Need-returns
 returns c = search head_put
 
-pub put-head-spec : {M : Type 1} → statement M
-put-head-spec =
+pub put_head_spec : {M : Type 1} → statement M
+put_head_spec =
     tie.close
     (tie.spec
     mul-put-le

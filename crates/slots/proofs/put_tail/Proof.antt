@@ -8,33 +8,33 @@ use Rattle.slots.proofs.put_tail.Lts as lts
 use Rattle.octets.proofs.put_le.Reads as put-le-reads
 use Rattle.slots.proofs.commands_at.Reads as commands-at-reads
 
-commands-at-requires : tie.Need-commands-at-requires
+commands-at-requires : tie.Need-commands_at-requires
 commands-at-requires c κs = search rules
 
-put-le-requires : tie.Need-put-le-requires
+put-le-requires : tie.Need-put_le-requires
 put-le-requires c κs = search rules
 
-add-put-le : tie.Need-overflow-add-put-le
+add-put-le : tie.Need-overflow_add-q
 add-put-le c = search rules
 
-put-le-requires-2 : tie.Need-put-le-requires-2
+put-le-requires-2 : tie.Need-put_le-requires-2
 put-le-requires-2 c κs = search rules
 
-add-put-le-2 : tie.Need-overflow-add-put-le-2
+add-put-le-2 : tie.Need-overflow_add-q-2
 add-put-le-2 c = search rules
 
-put-le-requires-3 : tie.Need-put-le-requires-3
+put-le-requires-3 : tie.Need-put_le-requires-3
 put-le-requires-3 c κs = search rules
 
-same_length : tie.Need-same-length
+same_length : tie.Need-shape_of-slots
 same_length c = search rules
 
 returns : tie.Need-returns
 returns c =
-    tail_put _ _ _ _ _ _ _ _ _ _ _ c.before.before.before.before.before.before.before.before.before.before.before.before.commands-at.ensures c.before.before.before.before.before.before.before.before.before.before.put-le.ensures c.before.before.before.before.before.before.put-le2.ensures c.before.before.put-le3.ensures
+    tail_put _ _ _ _ _ _ _ _ _ _ _ c.before.before.before.before.before.before.before.before.before.before.before.before.commands_at.ensures c.before.before.before.before.before.before.before.before.before.before.put_le.ensures c.before.before.before.before.before.before.put_le-2.ensures c.before.before.put_le-3.ensures
 
-pub put-tail-spec : {M : Type 1} → statement M
-put-tail-spec =
+pub put_tail_spec : {M : Type 1} → statement M
+put_tail_spec =
     tie.close
     (tie.spec
     commands-at-requires

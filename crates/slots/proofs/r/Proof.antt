@@ -7,17 +7,17 @@ use Rattle.slots.proofs.r.Reads as reads
 use Rattle.slots.proofs.r.Lts as lts
 use Rattle.octets.proofs.byte_at.Reads as byte-at-reads
 
-mul-byte-at : tie.Need-overflow-mul-byte-at
+mul-byte-at : tie.Need-overflow_mul-a
 mul-byte-at c = search rules
 
-add-byte-at : tie.Need-overflow-add-byte-at
+add-byte-at : tie.Need-overflow_add-a
 add-byte-at c = search rules
 
-byte-at-requires : tie.Need-byte-at-requires
+byte-at-requires : tie.Need-byte_at-requires
 byte-at-requires c κs = search rules
 
 returns : tie.Need-returns
 returns c = (r_is _ _ _ c.byte_at.ensures.0, c.byte_at.ensures.1)
 
-pub r-spec : {M : Type 1} → statement M
-r-spec = tie.close (tie.spec mul-byte-at add-byte-at byte-at-requires returns)
+pub r_spec : {M : Type 1} → statement M
+r_spec = tie.close (tie.spec mul-byte-at add-byte-at byte-at-requires returns)

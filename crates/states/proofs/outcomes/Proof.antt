@@ -12,25 +12,25 @@ use Rattle.states.proofs.outcomes.Tie as tie
 abbrev device : tie.Start → Device
 device c = device_in c.args.tabled c.args.book.now c.args.masks.now c.args.n c.args.m
 
-returns : tie.Need-returns
-returns c = outcomes_out _ _ _ (states_over _ _ c.if1.true)
+returns : tie.Need-returns-then-n-gt64
+returns c = outcomes_out _ _ _ (states_over _ _ c.if-n-gt64.true)
 
-returns-2 : tie.Need-returns-2
-returns-2 c = outcomes_out _ _ _ (commands_over _ _ c.before.if1.false c.if2.true)
+returns-2 : tie.Need-returns-then-m-gt32
+returns-2 c = outcomes_out _ _ _ (commands_over _ _ c.before.if-n-gt64.false c.if-m-gt32.true)
 
-returns-3 : tie.Need-returns-3
+returns-3 : tie.Need-returns-then-n-state
 returns-3 c =
     let a = c.before.before.before.before.before in
     sym (outcomes-limits (device a) a.args.state a.args.command (omega arith) (omega arith)
-    ∙ outcomes-past a.args.tabled a.args.book.now a.args.masks.now a.args.n a.args.m a.args.state a.args.command c.if3.true)
+    ∙ outcomes-past a.args.tabled a.args.book.now a.args.masks.now a.args.n a.args.m a.args.state a.args.command c.if-n-state.true)
 
-outcomes-at-requires : tie.Need-outcomes-at-requires
+outcomes-at-requires : tie.Need-outcomes_at-requires
 outcomes-at-requires c κs = search rules
 
-returns-4 : tie.Need-returns-4
+returns-4 : tie.Need-returns
 returns-4 c =
     let a = c.before.before.before.before.before.before in
-    c.outcomes-at.ensures ∙ sym (outcomes-limits (device a) a.args.state a.args.command (omega arith) (omega arith))
+    c.outcomes_at.ensures ∙ sym (outcomes-limits (device a) a.args.state a.args.command (omega arith) (omega arith))
 
-pub outcomes-spec : {M : Type 1} → statement M
-outcomes-spec = tie.close (tie.spec returns returns-2 returns-3 outcomes-at-requires returns-4)
+pub outcomes_spec : {M : Type 1} → statement M
+outcomes_spec = tie.close (tie.spec returns returns-2 returns-3 outcomes-at-requires returns-4)

@@ -13,5 +13,5 @@ of-requires c κs = search rules
 returns : tie.Need-returns
 returns c = ap {B = Visited} (λ (x : StateSet). record { set = x; able = false; visits = 0 }) c.of.ensures
 
-pub outside-limits-spec : {M : Type 1} → statement M
-outside-limits-spec = tie.close (tie.spec of-requires returns)
+pub outside_limits_spec : {M : Type 1} → statement M
+outside_limits_spec = tie.close (tie.spec of-requires returns)

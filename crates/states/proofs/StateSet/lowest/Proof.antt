@@ -9,11 +9,11 @@ use Rattle.states.proofs.StateSet.lowest.Tie as tie
 small : (w : ℕ) → count_trailing_zeros 64 w < 2 ^ 64
 small w = omega (arith, trailing_le 64 w)
 
-cast-result : tie.Need-overflow-cast-result
+cast-result : tie.Need-overflow_cast-result
 cast-result c = record { fits = small _ }
 
 returns : tie.Need-returns
 returns c = trailing_lowest _
 
-pub lowest-spec : {M : Type 1} → statement M
-lowest-spec = tie.close (tie.spec cast-result returns)
+pub lowest_spec : {M : Type 1} → statement M
+lowest_spec = tie.close (tie.spec cast-result returns)

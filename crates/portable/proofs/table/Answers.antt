@@ -1,17 +1,13 @@
 -- `portable::table` meets its contract: one test over all 384 entries of the constant, its length, and how many are not empty, computed. Assumes nothing.
-use mathlib.Core.Path.{refl}
+use Rattle.std.proofs.Common.{refl}
 use Rattle.base.specs.Tests.{pick, both}
 use Rattle.base.specs.Tables.{every, by_rule}
 use Rattle.lookups.specs.Lookup.{filled}
 use Rattle.lookups.proofs.Tables.{rule_to_table}
 use Rattle.portable_rule.specs.Computed.{single, rule_mask}
 use Rattle.portable_rule.proofs.Rules.{works_out}
-use Rattle.portable.proofs.table.Statement.{statement}
-use Rattle.portable.proofs.table.Tie as tie
+use Rattle.portable.proofs.table.Goals as goal
 
-returns : tie.Need-returns
+pub returns : goal.returns
 unfolding pick both filled every by_rule single rule_mask
 returns c = rule_to_table works_out refl tt refl
-
-pub table-spec : {M : Type 1} → statement M
-table-spec = tie.close (tie.spec returns)

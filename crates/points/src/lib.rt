@@ -15,7 +15,7 @@ use items::Parts;
 use states::StateSet;
 
 // What an item asks: its forward commands as one number, lowest byte first, with the mask of as many bytes; the states above and below.
-#[derive(Drop)]
+#[derive(Clone, Copy)]
 pub struct Asked {
     pub k: u64,
     pub mask: u64,

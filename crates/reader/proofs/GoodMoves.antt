@@ -77,7 +77,7 @@ module _ (s : List ℕ) (at next : ℕ) (st : State) (l : at + 14 ≤ length s) 
       (goes s at st 10 2 (standing s at 10 2 (omega arith) (sym g.length_is) (sym g.kind_is) (omega arith)) (Go (moved st next)) judged (moved st next)
       refl (record { n_high = k.n_high; m_high = k.m_high; few = k.few }))
 
-pub passing_onward : {s : List ℕ} {from at : ℕ} {st after : State} → Limits st → Passing s from st at after
+pub passing_onward : {s : List ℕ} {from : ℕ} {st : State} {at : ℕ} {after : State} → Limits st → Passing s from st at after
     → (scan (cut (drop from s)) from st ≡ scan (cut (drop at s)) at after) × Limits after
 passing_onward k none = (refl, k)
 passing_onward {s} k (one p l g h) =
@@ -85,6 +85,6 @@ passing_onward {s} k (one p l g h) =
     let o = move_onward s _ _ _ l g h f in
     (e ∙ o.same, o.limits)
 
-pub passing_up : {s : List ℕ} {from at : ℕ} {st after : State} → Passing s from st at after → from ≤ at
+pub passing_up : {s : List ℕ} {from : ℕ} {st : State} {at : ℕ} {after : State} → Passing s from st at after → from ≤ at
 passing_up none = omega arith
 passing_up (one p l g h) = omega (arith, passing_up p)

@@ -263,7 +263,7 @@ passed {s} {b} {at} {t} a e g l t' c = go (eqb (le_at 2 s (at + 2)) 3) refl
         subst (λ (z : Tally). Summing s b (at + 4 + le_at 2 s at) z) (sym (c.other f)) (other_passed g f l)
 
 -- past moves, which add nothing
-pub moves_passed : {s : List ℕ} {b : Book} {from at : ℕ} {st after : State} {t : Tally} → Passing s from st at after → Summing s b from t → Summing s b at t
+pub moves_passed : {s : List ℕ} {b : Book} {from : ℕ} {st : State} {at : ℕ} {after : State} {t : Tally} → Passing s from st at after → Summing s b from t → Summing s b at t
 moves_passed none g = g
 moves_passed {s} {b} {t = t} (one {at} p l m h) g =
     let e : at + 4 + le_at 2 s at ≡ at + 14 = omega (arith, m.length_is) in

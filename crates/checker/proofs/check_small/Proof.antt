@@ -4,34 +4,34 @@ use Rattle.checker.proofs.Ways.{asked, small-refused, small-judged}
 use Rattle.checker.proofs.check_small.Statement.{statement}
 use Rattle.checker.proofs.check_small.Tie as tie
 
-reading-of-requires : tie.Need-reading-of-requires
+reading-of-requires : tie.Need-reading_of-found-requires
 reading-of-requires c κs = search rules
 
-with-units-requires : tie.Need-with-units-requires
+with-units-requires : tie.Need-with_units-requires
 with-units-requires c κs = search rules
 
-returns : tie.Need-returns
-returns c = small-refused c.before.before.before.reading-of.ensures c.before.if1.true c.with-units.ensures
+returns : tie.Need-returns-then-found-ne0
+returns c = small-refused c.reading_of-found.ensures c.if-found-ne0.true c.with_units.ensures
 
 index-requires : tie.Need-index-requires
 index-requires c κs = search rules
 
-judge-items-requires : tie.Need-judge-items-requires
+judge-items-requires : tie.Need-judge_items-requires
 judge-items-requires c κs =
-    let f = c.before.before.before.before.before in
-    asked f.before.before.reading-of.ensures f.if1.false
+    let f = c in
+    asked f.reading_of-found.ensures f.if-found-ne0.false
 
-same_length : tie.Need-same-length
+same_length : tie.Need-shape_of-scratch
 same_length c = search rules
 
-returns-2 : tie.Need-returns-2
+returns-2 : tie.Need-returns
 returns-2 c =
-    let i = c.before.before.before.before in
-    let f = i.before.before in
-    small-judged f.before.before.reading-of.ensures f.if1.false i.index.ensures c.judge-items.ensures
+    let i = c in
+    let f = i in
+    small-judged f.reading_of-found.ensures f.if-found-ne0.false i.index.ensures c.judge_items.ensures
 
-pub check-small-spec : {M : Type 1} → statement M
-check-small-spec =
+pub check_small_spec : {M : Type 1} → statement M
+check_small_spec =
     tie.close
     (tie.spec
     reading-of-requires

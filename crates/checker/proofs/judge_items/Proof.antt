@@ -12,52 +12,51 @@ use Rattle.checker.specs.Contract.{on_judgement}
 use Rattle.checker.proofs.judge_items.Statement.{statement}
 use Rattle.checker.proofs.judge_items.Tie as tie
 
-first-wrong-requires : tie.Need-first-wrong-requires
-first-wrong-requires c κs = c.before.before.requires
+first-wrong-requires : tie.Need-first_wrong-judged-requires
+first-wrong-requires c κs = c.requires
 
-enum_told : tie.Need-enum-told
+enum_told : tie.Need-enum_told-1
 enum_told c = search rules
 
-with-units-requires : tie.Need-with-units-requires
+with-units-requires : tie.Need-with_units-requires
 with-units-requires c κs = search rules
 
-enum-known-judgement : tie.Need-enum-known-judgement
+enum-known-judgement : tie.Need-enum_known-judgement
 enum-known-judgement c = search rules
 
-code-of-requires : tie.Need-code-of-requires
+code-of-requires : tie.Need-code_of-requires
 code-of-requires c κs = search rules
 
 refused-requires : tie.Need-refused-requires
 refused-requires c κs = search rules
 
-with-units-requires-2 : tie.Need-with-units-requires-2
+with-units-requires-2 : tie.Need-with_units-requires-in-Wrong
 with-units-requires-2 c κs = search rules
 
 -- the answer of a judgement, of what reading found
 abbrev answer : Reading → JudgementMade → Checking
 answer found j = with_units (on_judgement j.found refusal found) j.units
 
-returns : tie.Need-returns
+returns : tie.Need-returns-in-AllAccepted
 returns c b a e same =
-    let f = c.before.before.before in
-    let found = f.before.before.before.args.found in
-    c.with-units.ensures
-    ∙ sym (ap (λ (x : Judgement). with_units (on_judgement x refusal found) f.first-wrong.result.units) c.before.enum_told.given.1)
-    ∙ ap (answer found) (f.first-wrong.ensures b a e same)
+    let f = c in
+    let found = f.args.found in
+    c.with_units.ensures
+    ∙ sym (ap (λ (x : Judgement). with_units (on_judgement x refusal found) f.first_wrong-judged.result.units) c.in-AllAccepted.is)
+    ∙ ap (answer found) (f.first_wrong-judged.ensures b a e same)
 
-returns-2 : tie.Need-returns-2
+returns-2 : tie.Need-returns-in-Wrong
 returns-2 c b a e same =
-    let told = c.before.before.before.before.judgement.given in
-    let f = c.before.before.before.before.before.before in
-    let found = f.before.before.before.args.found in
-    let units = f.first-wrong.result.units in
-    c.with-units2.ensures
-    ∙ ap (λ (q : Reading). with_units q units) (c.before.refused.ensures ∙ ap (λ (k : ℕ). refusal k told.0.0) c.before.before.code-of.ensures)
-    ∙ sym (ap (λ (x : Judgement). with_units (on_judgement x refusal found) units) told.1)
-    ∙ ap (answer found) (f.first-wrong.ensures b a e same)
+    let f = c in
+    let found = f.args.found in
+    let units = f.first_wrong-judged.result.units in
+    c.with_units-in-Wrong.ensures
+    ∙ ap (λ (q : Reading). with_units q units) (c.refused.ensures ∙ ap (λ (k : ℕ). refusal k c.in-Wrong.place) c.code_of.ensures)
+    ∙ sym (ap (λ (x : Judgement). with_units (on_judgement x refusal found) units) c.in-Wrong.is)
+    ∙ ap (answer found) (f.first_wrong-judged.ensures b a e same)
 
-pub judge-items-spec : {M : Type 1} → statement M
-judge-items-spec =
+pub judge_items_spec : {M : Type 1} → statement M
+judge_items_spec =
     tie.close
     (tie.spec
     first-wrong-requires

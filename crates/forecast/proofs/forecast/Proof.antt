@@ -13,50 +13,48 @@ use Rattle.forecast.proofs.forecast.Lts as lts
 use Rattle.forecast.proofs.refused.Reads as refused-reads
 use Rattle.reader.proofs.sum_up.Reads as sum-up-reads
 
-bytes : (c : tie.After-shared-slice-known) → Bytes c.before.args.book.now
-bytes c = each_of (λ x. x < 256) c.before.args.book.now 0 (λ i h. omega (arith, c.shared-slice-known.given i))
+bytes : (c : tie.After-shared_slice_known-1) → Bytes c.args.book.now
+bytes c = each_of (λ x. x < 256) c.args.book.now 0 (λ i h. omega (arith, c.shared_slice_known-1.given i))
 
-sum-up-requires : tie.Need-sum-up-requires
+sum-up-requires : tie.Need-sum_up-sums-requires
 sum-up-requires c κs = search rules
 
-enum-known-seen : tie.Need-enum-known-seen
+enum-known-seen : tie.Need-enum_known-seen
 enum-known-seen c = search rules
 
 refused-requires : tie.Need-refused-requires
 refused-requires c κs = search rules
 
-enum_told : tie.Need-enum-told
+enum_told : tie.Need-enum_told-1
 enum_told c = search rules
 
-refused-requires-2 : tie.Need-refused-requires-2
+refused-requires-2 : tie.Need-refused-requires-then-i-gt32
 refused-requires-2 c κs = search rules
 
-returns : tie.Need-returns
+returns : tie.Need-returns-then-i-gt32
 returns c =
-    let u = c.before.before.before.before in
-    let g = c.before.before.enum_told.given in
-    as_long _ _ (bytes u.before) _ u.sum-up.ensures _ g.1 c.before.if1.true _ c.refused2.ensures
+    let u = c in
+    as_long _ _ (bytes u.before.before.before.before) _ u.sum_up-sums.ensures _ c.in-Read.is c.if-i-gt32.true _ c.refused-then-i-gt32.ensures
 
-mul-t9 : tie.Need-overflow-mul-t9
+mul-t9 : tie.Need-overflow_mul-result
 mul-t9 c =
-    let x = c.before.before.before.before.sum-up in
-    let i = c.before.before.before.before.before.before.args.i in
+    let x = c.sum_up-sums in
+    let i = c.args.i in
     let l : i * x.result.longest ≤ 32 * 255 = mul-le-mul {n₁ = i} {m₁ = x.result.longest} {n₂ = 32} {m₂ = 255} (omega arith) (omega (arith, x.ensures.longest_high)) in
     omega arith
 
-returns-2 : tie.Need-returns-2
+returns-2 : tie.Need-returns-in-Fault
 returns-2 c =
-    let u = c.before.before.before.before in
-    as_faulty _ _ (bytes u.before) _ u.sum-up.ensures _ _ c.before.before.seen.given.1 _ c.refused.ensures
+    let u = c in
+    as_faulty _ _ (bytes u.before.before.before) _ u.sum_up-sums.ensures _ _ c.in-Fault.is _ c.refused.ensures
 
-returns-3 : tie.Need-returns-3
+returns-3 : tie.Need-returns-else-i-gt32
 returns-3 c =
-    let u = c.before.before.before.before in
-    let g = c.before.before.enum_told.given in
-    as_fine _ _ (bytes u.before) _ u.sum-up.ensures _ g.1 c.before.if1.false
+    let u = c in
+    as_fine _ _ (bytes u.before.before.before.before) _ u.sum_up-sums.ensures _ c.in-Read.is c.if-i-gt32.false
 
-pub forecast-spec : {M : Type 1} → statement M
-forecast-spec =
+pub forecast_spec : {M : Type 1} → statement M
+forecast_spec =
     tie.close
     (tie.spec
     sum-up-requires

@@ -13,22 +13,22 @@ use Rattle.items.proofs.phi.Reads as phi-reads
 use Rattle.items.proofs.psi.Reads as psi-reads
 use Rattle.octets.proofs.u64_at.Reads as u64-at-reads
 
-mul-mask : tie.Need-overflow-mul-mask
+mul-mask : tie.Need-overflow_mul-mask
 mul-mask c = search rules
 
-sub-mask : tie.Need-overflow-sub-mask
+sub-mask : tie.Need-overflow_sub-mask
 sub-mask c = search rules
 
-shr-mask : tie.Need-overflow-shr-mask
+shr-mask : tie.Need-overflow_shr-mask
 shr-mask c = search rules
 
-u64-at-requires : tie.Need-u64-at-requires
+u64-at-requires : tie.Need-u64_at-commands-requires
 u64-at-requires c κs = search rules
 
-phi-requires : tie.Need-phi-requires
+phi-requires : tie.Need-phi-phi-requires
 phi-requires c κs = search rules
 
-psi-requires : tie.Need-psi-requires
+psi-requires : tie.Need-psi-psi-requires
 psi-requires c κs = search rules
 
 returns : tie.Need-returns
@@ -42,13 +42,13 @@ returns c =
       k_is = sym k;
       mask_is = mask ∙ ap (λ (x : ℕ). 2 ^ (8 * x) - 1) (sym k);
       commands_is =
-          ap (λ (x : ℕ). bit_and x (18446744073709551615 / 2 ^ (64 - 8 * p.k))) c.before.before.u64-at.ensures
-          ∙ masked_bytes p.k a.book.now p.forward _ s.requires.1 (each_byte a.book.now c.before.before.before.shared-slice-known.given) mask;
-      phi_is = c.before.phi.ensures;
-      psi_is = c.psi.ensures;
+          ap (λ (x : ℕ). bit_and x (18446744073709551615 / 2 ^ (64 - 8 * p.k))) c.before.before.u64_at-commands.ensures
+          ∙ masked_bytes p.k a.book.now p.forward _ s.requires.1 (each_byte a.book.now c.before.before.before.shared_slice_known-1.given) mask;
+      phi_is = c.before.phi-phi.ensures;
+      psi_is = c.psi-psi.ensures;
     }
 
-pub asked-by-spec : {M : Type 1} → statement M
-asked-by-spec =
+pub asked_by_spec : {M : Type 1} → statement M
+asked_by_spec =
     tie.close
     (tie.spec mul-mask sub-mask shr-mask u64-at-requires phi-requires psi-requires returns)

@@ -22,20 +22,20 @@ use Rattle.points.proofs.best.Reads as reads
 use Rattle.points.proofs.best.Lts as lts
 use Rattle.points.proofs.wide.Reads as wide-reads
 
-abbrev invariant-loop : tie.invariant-loop
+abbrev invariant-loop : tie.invariant-loop-rest
 invariant-loop row ks prices fewest j number₀ first₀ rest₀ number first rest =
     Left (cheaper ks prices fewest j) 64 (cheapest ks prices fewest j row) (record { number = number; item = first }) rest
     × ((s : ℕ) → member rest s ≡ true → member row s ≡ true)
 
-abbrev decreases-loop : tie.decreases-loop
+abbrev decreases-loop : tie.decreases-loop-rest
 decreases-loop row ks prices fewest j number₀ first₀ rest₀ number first rest = rest
 
-loop-holds : tie.Need-loop-init invariant-loop decreases-loop
+loop-holds : tie.Need-loop-rest-init invariant-loop decreases-loop
 loop-holds c = (record { low = search rules; gives = refl }, λ s h. h)
 
 -- an item is left
-module _ (c : tie.In-loop invariant-loop decreases-loop) where
-  abbrev loop : tie.At-loop invariant-loop decreases-loop
+module _ (c : tie.In-loop-rest invariant-loop decreases-loop) where
+  abbrev loop : tie.At-loop-rest invariant-loop decreases-loop
   loop = c.before
 
   abbrev start : tie.Start invariant-loop decreases-loop
@@ -46,100 +46,100 @@ module _ (c : tie.In-loop invariant-loop decreases-loop) where
 
   -- the lowest
   abbrev next : ℕ
-  next = count_trailing_zeros 64 loop.loop.rest
+  next = count_trailing_zeros 64 loop.loop-rest.rest
 
   few : next < 64
-  few = omega (arith, trailing_lowest loop.loop.rest, lowest-low 64 loop.loop.rest (omega arith) loop.loop.inv.0.low c.loop-test.true)
+  few = omega (arith, trailing_lowest loop.loop-rest.rest, lowest-low 64 loop.loop-rest.rest (omega arith) loop.loop-rest.invariant.0.low c.loop-rest-test.true)
 
   room : get_or start.args.ks.now next 0 ≤ start.args.j
-  room = start.pre.1 next (loop.loop.inv.1 next (lowest-member loop.loop.rest c.loop-test.true loop.loop.inv.0.low))
+  room = start.requires.1 next (loop.loop-rest.invariant.1 next (lowest-member loop.loop-rest.rest c.loop-rest-test.true loop.loop-rest.invariant.0.low))
 
   -- without it
   abbrev rest : ℕ
-  rest = bit_and loop.loop.rest (loop.loop.rest - 1)
+  rest = bit_and loop.loop-rest.rest (loop.loop-rest.rest - 1)
 
-  rest-is : rest ≡ without loop.loop.rest (lowest_in loop.loop.rest)
-  rest-is = lowest_off loop.loop.rest c.loop-test.true loop.loop.inv.0.low
+  rest-is : rest ≡ without loop.loop-rest.rest (lowest_in loop.loop-rest.rest)
+  rest-is = lowest_off loop.loop-rest.rest c.loop-rest-test.true loop.loop-rest.invariant.0.low
 
   abbrev Next : Choice → Type 0
   Next x = let a = start.args in Left step 64 (cheapest a.ks.now a.prices.now a.fewest.now a.j a.row) x rest
 
-  again : Next (step (record { number = loop.loop.number; item = loop.loop.first }) next)
+  again : Next (step (record { number = loop.loop-rest.number; item = loop.loop-rest.first }) next)
   again =
-      left-next step 64 _ _ _ loop.loop.inv.0 (omega arith) c.loop-test.true next rest (trailing_lowest loop.loop.rest) rest-is
+      left-next step 64 _ _ _ loop.loop-rest.invariant.0 (omega arith) c.loop-rest-test.true next rest (trailing_lowest loop.loop-rest.rest) rest-is
 
-cast-low : tie.Need-overflow-cast-low invariant-loop decreases-loop
+cast-low : tie.Need-overflow_cast-low invariant-loop decreases-loop
 cast-low c = omega (arith, few c)
 
-element-copy-out-low : tie.Need-element-copy-out-low invariant-loop decreases-loop
-element-copy-out-low c = few c
+element-copy-out-low : tie.Need-bounds-ks-a invariant-loop decreases-loop
+element-copy-out-low c = few c.before
 
-cast-low-2 : tie.Need-overflow-cast-low-2 invariant-loop decreases-loop
-cast-low-2 c = omega (arith, room c.before)
+cast-low-2 : tie.Need-overflow_cast-low-in-loop-rest invariant-loop decreases-loop
+cast-low-2 c = omega (arith, room c.before.before)
 
-sub_low : tie.Need-overflow-sub-low invariant-loop decreases-loop
-sub_low c = room c.before
+sub_low : tie.Need-overflow_sub-low invariant-loop decreases-loop
+sub_low c = room c.before.before
 
-cast-wide : tie.Need-overflow-cast-wide invariant-loop decreases-loop
-cast-wide c = omega (arith, few c.before)
+cast-wide : tie.Need-overflow_cast-a invariant-loop decreases-loop
+cast-wide c = omega (arith, few c.before.before)
 
-mul_wide : tie.Need-overflow-mul-wide invariant-loop decreases-loop
-mul_wide c = omega (arith, few c.before)
+mul_wide : tie.Need-offset_bounds-prices-a invariant-loop decreases-loop
+mul_wide c = omega (arith, few c.before.before)
 
-element-copy-out-wide : tie.Need-element-copy-out-wide invariant-loop decreases-loop
-element-copy-out-wide c = few c.before
+element-copy-out-wide : tie.Need-bounds-prices-a invariant-loop decreases-loop
+element-copy-out-wide c = few c.before.before.before
 
 wide-requires : tie.Need-wide-requires invariant-loop decreases-loop
 wide-requires c κs = search rules
 
-mul-wide-2 : tie.Need-overflow-mul-wide-2 invariant-loop decreases-loop
+mul-wide-2 : tie.Need-offset_bounds-fewest-low invariant-loop decreases-loop
 mul-wide-2 c = omega arith
 
-element-copy-out-wide-2 : tie.Need-element-copy-out-wide-2 invariant-loop decreases-loop
+element-copy-out-wide-2 : tie.Need-bounds-fewest-low invariant-loop decreases-loop
 element-copy-out-wide-2 c = omega arith
 
-wide-requires-2 : tie.Need-wide-requires-2 invariant-loop decreases-loop
+wide-requires-2 : tie.Need-wide-requires-in-loop-rest invariant-loop decreases-loop
 wide-requires-2 c κs = search rules
 
-add-sum : tie.Need-overflow-add-sum invariant-loop decreases-loop
-add-sum c = omega (arith, c.wide2.ensures.1, c.before.before.wide.ensures.1)
+add-sum : tie.Need-overflow_add-sum invariant-loop decreases-loop
+add-sum c = omega (arith, c.wide-in-loop-rest.ensures.1, c.wide.ensures.1)
 
-cast-first : tie.Need-overflow-cast-first invariant-loop decreases-loop
-cast-first c = omega (arith, few c.before.before.before.before.before.before)
+cast-first : tie.Need-overflow_cast-first invariant-loop decreases-loop
+cast-first c = omega (arith, few c.before.before.before.before.before.before.before.before.before)
 
-sub-rest : tie.Need-overflow-sub-rest invariant-loop decreases-loop
+sub-rest : tie.Need-overflow_sub-rest invariant-loop decreases-loop
 sub-rest c = omega arith
 
-loop-less : tie.Need-loop-smaller invariant-loop decreases-loop
+loop-less : tie.Need-loop-rest-smaller invariant-loop decreases-loop
 loop-less c =
-    let k = c.before.before.before.before.before.before in
-    left_less 64 (loop k).loop.rest (omega arith) (loop k).loop.invariant.0.low k.loop-test.true (rest k) (rest-is k)
+    let k = c.before.before.before.before.before.before.before.before.before in
+    left_less 64 (loop k).loop-rest.rest (omega arith) (loop k).loop-rest.invariant.0.low c.loop-rest-test.true (rest k) (rest-is k)
 
-loop-again : tie.Need-loop-preserved invariant-loop decreases-loop
+loop-again : tie.Need-loop-rest-preserved invariant-loop decreases-loop
 loop-again c =
-    let k = c.before.before.before.before.before.before in
-    let l = (loop k).loop in
+    let k = c.before.before.before.before.before.before.before.before.before in
+    let l = (loop k).loop-rest in
     let a = (start k).args in
-    let r = c.before.before.before.wide.ensures.0 in
-    let x = c.before.wide2.ensures.0 in (
+    let r = c.wide.ensures.0 in
+    let x = c.wide-in-loop-rest.ensures.0 in (
       ⊎_elim
           (λ w.
-          subst₂ (λ (y z : ℕ). Next k (record { number = y; item = z })) (sym w.1) (sym w.2)
-          (subst (Next k) (sym (cheaper_yes a.ks.now a.prices.now a.fewest.now a.j l.number l.first (next k) _ _ r x w.0.taken)) (again k)))
+          subst₂ (λ (y z : ℕ). Next k (record { number = y; item = z })) (sym w.number-is) (sym w.first-is)
+          (subst (Next k) (sym (cheaper_yes a.ks.now a.prices.now a.fewest.now a.j l.number l.first (next k) _ _ r x w.if-sum-number.true)) (again k)))
           (λ w.
-          subst₂ (λ (y z : ℕ). Next k (record { number = y; item = z })) (sym w.1) (sym w.2)
-          (subst (Next k) (sym (cheaper_no a.ks.now a.prices.now a.fewest.now a.j l.number l.first (next k) _ _ r x w.0.left)) (again k)))
-          c.if1.branch,
-      λ s h. l.inv.1 s (both-member l.rest (l.rest - 1) s h),
+          subst₂ (λ (y z : ℕ). Next k (record { number = y; item = z })) (sym w.number-is) (sym w.first-is)
+          (subst (Next k) (sym (cheaper_no a.ks.now a.prices.now a.fewest.now a.j l.number l.first (next k) _ _ r x w.if-sum-number.false)) (again k)))
+          c.if-sum-number.branch-raw,
+      λ s h. l.invariant.1 s (both-member l.rest (l.rest - 1) s h),
     )
 
 returns : tie.Need-returns invariant-loop decreases-loop
 returns c =
-    let a = c.before.before.args in
-    left-none (cheaper a.ks.now a.prices.now a.fewest.now a.j) 64 _ _ _ c.before.loop.invariant.0 (omega arith) c.loop-test.false
+    let a = c.args in
+    left-none (cheaper a.ks.now a.prices.now a.fewest.now a.j) 64 _ _ _ c.loop-rest.invariant.0 (omega arith) c.loop-rest-test.false
 
-pub best-spec : {M : Type 1} → statement M
-best-spec =
+pub best_spec : {M : Type 1} → statement M
+best_spec =
     tie.close
     (tie.spec
     invariant-loop

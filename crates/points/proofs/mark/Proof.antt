@@ -12,58 +12,58 @@ use Rattle.points.proofs.mark.Reads as reads
 use Rattle.points.proofs.mark.Lts as lts
 use Rattle.points.proofs.fits_at.Reads as fits-at-reads
 
-abbrev invariant-loop : tie.invariant-loop
+abbrev invariant-loop : tie.invariant-loop-j
 invariant-loop item a ahead sets i rows₀ j₀ rows j = Marking item ahead sets a j rows₀ rows × (item.k ≤ j)
 
-abbrev decreases-loop : tie.decreases-loop
+abbrev decreases-loop : tie.decreases-loop-j
 decreases-loop item a ahead sets i rows₀ j₀ rows j = i + 1 - j
 
-loop-holds : tie.Need-loop-init invariant-loop decreases-loop
+loop-holds : tie.Need-loop-j-init invariant-loop decreases-loop
 loop-holds c = let a = c.args in (mark_start a.item a.ahead.now a.sets.now a.a a.rows.now c.requires.2, omega arith)
 
-fits-at-requires : tie.Need-fits-at-requires invariant-loop decreases-loop
+fits-at-requires : tie.Need-fits_at-requires invariant-loop decreases-loop
 fits-at-requires c κs = omega arith
 
-mul-rows : tie.Need-overflow-mul-rows invariant-loop decreases-loop
+mul-rows : tie.Need-offset_bounds-rows-j invariant-loop decreases-loop
 mul-rows c = search rules
 
-element-copy-out-rows : tie.Need-element-copy-out-rows invariant-loop decreases-loop
+element-copy-out-rows : tie.Need-bounds-rows-j invariant-loop decreases-loop
 element-copy-out-rows c = search rules
 
-shl-rows : tie.Need-overflow-shl-rows invariant-loop decreases-loop
+shl-rows : tie.Need-overflow_shl-rows invariant-loop decreases-loop
 shl-rows c = search rules
 
-mul-rows-2 : tie.Need-overflow-mul-rows-2 invariant-loop decreases-loop
+mul-rows-2 : tie.Need-offset_bounds-rows-j-then-fits_at invariant-loop decreases-loop
 mul-rows-2 c = search rules
 
-element-write-rows : tie.Need-element-write-rows invariant-loop decreases-loop
+element-write-rows : tie.Need-bounds-rows-j-then-fits_at invariant-loop decreases-loop
 element-write-rows c = search rules
 
-add-j : tie.Need-overflow-add-j invariant-loop decreases-loop
+add-j : tie.Need-overflow_add-j invariant-loop decreases-loop
 add-j c = omega arith
 
-loop-less : tie.Need-loop-smaller invariant-loop decreases-loop
+loop-less : tie.Need-loop-j-smaller invariant-loop decreases-loop
 loop-less c = omega arith
 
-loop-again : tie.Need-loop-preserved invariant-loop decreases-loop
+loop-again : tie.Need-loop-j-preserved invariant-loop decreases-loop
 loop-again c =
-    let t = c.before in
-    let l = t.before.before in
-    let a = l.before.args in
-    let Next : List ℕ → Type 0 = λ (x : List ℕ). Marking a.item a.ahead.now a.sets.now a.a (l.loop.j + 1) a.rows.now x in (
+    let t = c in
+    let l = t in
+    let a = l.args in
+    let Next : List ℕ → Type 0 = λ (x : List ℕ). Marking a.item a.ahead.now a.sets.now a.a (l.loop-j.j + 1) a.rows.now x in (
       ⊎_elim
           (λ w.
-          subst Next (sym w.2)
-          (mark_in a.item a.ahead.now a.sets.now a.a a.rows.now l.loop.invariant.0 _ t.fits-at.ensures w.0.taken (omega arith) (omega arith)))
+          subst Next (sym w.rows-is)
+          (mark_in a.item a.ahead.now a.sets.now a.a a.rows.now l.loop-j.invariant.0 _ t.fits_at.ensures w.if-fits_at.true (omega arith) (omega arith)))
           (λ w.
-          subst Next (sym w.1)
-          (mark_out a.item a.ahead.now a.sets.now a.a a.rows.now l.loop.invariant.0 _ t.fits-at.ensures w.0.left))
-          c.if1.branch,
+          subst Next (sym w.rows-is)
+          (mark_out a.item a.ahead.now a.sets.now a.a a.rows.now l.loop-j.invariant.0 _ t.fits_at.ensures w.if-fits_at.false))
+          c.if-fits_at.branch-raw,
       omega arith,
     )
 
 returns : tie.Need-returns invariant-loop decreases-loop
-returns c = let l = c.before in let a = l.before.args in mark_end a.item a.ahead.now a.sets.now a.a a.rows.now l.loop.invariant.0 (omega arith)
+returns c = let l = c in let a = l.args in mark_end a.item a.ahead.now a.sets.now a.a a.rows.now l.loop-j.invariant.0 (omega arith)
 
 pub mark_spec : {M : Type 1} → statement M
 mark_spec =

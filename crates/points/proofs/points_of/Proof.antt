@@ -38,47 +38,47 @@ use Rattle.points.proofs.price.Reads as price-reads
 use Rattle.items.proofs.parts_at.Reads as parts-at-reads
 use Rattle.octets.proofs.word_at.Reads as word-at-reads
 
-abbrev invariant-loop : tie.invariant-loop
+abbrev invariant-loop : tie.invariant-loop-a
 invariant-loop book places weights count run sets i ahead rows₀ ks₀ prices₀ a₀ rows ks prices a = Listed (links_of (recorded book places) weights run sets count) i a rows ks prices × (a ≤ count)
 
-abbrev decreases-loop : tie.decreases-loop
+abbrev decreases-loop : tie.decreases-loop-a
 decreases-loop book places weights count run sets i ahead rows₀ ks₀ prices₀ a₀ rows ks prices a = count - a
 
-abbrev invariant-loop2 : tie.invariant-loop2
+abbrev invariant-loop2 : tie.invariant-loop-j
 invariant-loop2 book places weights count run sets i rows ks prices fewest₀ items₀ j₀ fewest items j =
     Numbered (links_of (recorded book places) weights run sets count) j fewest items × (j ≤ i)
 
-abbrev decreases-loop2 : tie.decreases-loop2
+abbrev decreases-loop2 : tie.decreases-loop-j
 decreases-loop2 book places weights count run sets i rows ks prices fewest₀ items₀ j₀ fewest items j = i - j
 
 -- ---- places: the call's start, the head of the loop over the items from the reading of one, its reading, and its end
-abbrev start : tie.After-look-ahead invariant-loop decreases-loop invariant-loop2 decreases-loop2 → tie.Start invariant-loop decreases-loop invariant-loop2 decreases-loop2
+abbrev start : tie.After-look_ahead invariant-loop decreases-loop invariant-loop2 decreases-loop2 → tie.Start invariant-loop decreases-loop invariant-loop2 decreases-loop2
 start c = c.before.before.before.before.before.before.before.before
 
-abbrev head : tie.After-parts-at invariant-loop decreases-loop invariant-loop2 decreases-loop2 → tie.At-loop invariant-loop decreases-loop invariant-loop2 decreases-loop2
+abbrev head : tie.After-parts_at-item invariant-loop decreases-loop invariant-loop2 decreases-loop2 → tie.At-loop-a invariant-loop decreases-loop invariant-loop2 decreases-loop2
 head c = c.before.before.before
 
-abbrev parts : tie.After-struct-known3 invariant-loop decreases-loop invariant-loop2 decreases-loop2 → tie.After-parts-at invariant-loop decreases-loop invariant-loop2 decreases-loop2
+abbrev parts : tie.After-struct_known-in-loop-a-2-1 invariant-loop decreases-loop invariant-loop2 decreases-loop2 → tie.After-parts_at-item invariant-loop decreases-loop invariant-loop2 decreases-loop2
 parts c = c.before.before.before.before.before
 
-abbrev kept : tie.After-asked-by invariant-loop decreases-loop invariant-loop2 decreases-loop2 → tie.After-struct-known3 invariant-loop decreases-loop invariant-loop2 decreases-loop2
+abbrev kept : tie.After-asked_by invariant-loop decreases-loop invariant-loop2 decreases-loop2 → tie.After-struct_known-in-loop-a-2-1 invariant-loop decreases-loop invariant-loop2 decreases-loop2
 kept c = c.before.before
 
-abbrev read : tie.After-asked-by invariant-loop decreases-loop invariant-loop2 decreases-loop2 → tie.After-parts-at invariant-loop decreases-loop invariant-loop2 decreases-loop2
+abbrev read : tie.After-asked_by invariant-loop decreases-loop invariant-loop2 decreases-loop2 → tie.After-parts_at-item invariant-loop decreases-loop invariant-loop2 decreases-loop2
 read c = parts (kept c)
 
-abbrev listed : tie.At-loop2 invariant-loop decreases-loop invariant-loop2 decreases-loop2 → tie.At-loop invariant-loop decreases-loop invariant-loop2 decreases-loop2
+abbrev listed : tie.At-loop-j invariant-loop decreases-loop invariant-loop2 decreases-loop2 → tie.At-loop-a invariant-loop decreases-loop invariant-loop2 decreases-loop2
 listed c = c.before.before
 
 -- ---- within the limits
-few-items : (c : tie.After-look-ahead invariant-loop decreases-loop invariant-loop2 decreases-loop2) → (start c).args.count ≤ 64
-few-items c = omega (arith, c.before.before.before.if1.false)
+few-items : (c : tie.After-look_ahead invariant-loop decreases-loop invariant-loop2 decreases-loop2) → (start c).args.count ≤ 64
+few-items c = omega (arith, c.if-count-gt64.false)
 
-few-points : (c : tie.After-look-ahead invariant-loop decreases-loop invariant-loop2 decreases-loop2) → (start c).args.i ≤ 32
-few-points c = omega (arith, c.before.before.if2.false)
+few-points : (c : tie.After-look_ahead invariant-loop decreases-loop invariant-loop2 decreases-loop2) → (start c).args.i ≤ 32
+few-points c = omega (arith, c.if-i-gt32.false)
 
-fair : (c : tie.After-struct-known3 invariant-loop decreases-loop invariant-loop2 decreases-loop2) → (1 ≤ (parts c).parts_at.result.k) × ((parts c).parts_at.result.k ≤ 8)
-fair c = (omega (arith, c.before.before.before.if3.false), omega (arith, c.before.if4.false))
+fair : (c : tie.After-struct_known-in-loop-a-2-1 invariant-loop decreases-loop invariant-loop2 decreases-loop2) → (1 ≤ (parts c).parts_at-item.result.k) × ((parts c).parts_at-item.result.k ≤ 8)
+fair c = (omega (arith, c.if-item-lt1.false), omega (arith, c.if-item-gt8.false))
 
 abbrev links : tie.Start invariant-loop decreases-loop invariant-loop2 decreases-loop2 → Links
 links c =
@@ -86,67 +86,67 @@ links c =
     links_of (recorded a.book.now a.places.now) a.weights.now a.run.now a.sets.now a.count
 
 -- ---- what is read is item a
-module _ (c : tie.After-parts-at invariant-loop decreases-loop invariant-loop2 decreases-loop2) where
+module _ (c : tie.After-parts_at-item invariant-loop decreases-loop invariant-loop2 decreases-loop2) where
   abbrev s : tie.Start invariant-loop decreases-loop invariant-loop2 decreases-loop2
   s = start (head c).before
 
   abbrev a : ℕ
-  a = (head c).loop.a
+  a = (head c).loop-a.a
 
-  item_is : held_in s.args.book.now c.parts_at.result ≡ recorded s.args.book.now s.args.places.now a
-  item_is = item-read s.args.book.now s.args.places.now a c.before.word_at.ensures.0 c.parts_at.ensures
+  item_is : held_in s.args.book.now c.parts_at-item.result ≡ recorded s.args.book.now s.args.places.now a
+  item_is = item-read s.args.book.now s.args.places.now a c.word_at.ensures.0 c.parts_at-item.ensures
 
-  k_is : c.parts_at.result.k ≡ (links s).k a
-  k_is = k-read s.args.book.now s.args.places.now a c.before.word_at.ensures.0 c.parts_at.ensures
+  k_is : c.parts_at-item.result.k ≡ (links s).k a
+  k_is = k-read s.args.book.now s.args.places.now a c.word_at.ensures.0 c.parts_at-item.ensures
 
   known : a < 64
-  known = omega (arith, c.before.before.loop-test.true, few-items (head c).before)
+  known = omega (arith, c.loop-a-test.true, few-items (head c).before)
 
 -- what it asks is what it takes to fit
-fit_is : (c : tie.After-asked-by invariant-loop decreases-loop invariant-loop2 decreases-loop2) (ahead : List ℕ) → let s = s (read c) in Ahead s.args.run.now s.args.i ahead
+fit_is : (c : tie.After-asked_by invariant-loop decreases-loop invariant-loop2 decreases-loop2) (ahead : List ℕ) → let s = s (read c) in Ahead s.args.run.now s.args.i ahead
     → (j : ℕ) → j ≤ s.args.i → asks_at c.asked_by.result ahead s.args.sets.now j ≡ (links s).fit (a (read c)) j
 fit_is c ahead h j b =
     let r = read c in
     let t = (s r).args in
-    let p = r.parts_at.result in
+    let p = r.parts_at-item.result in
     let k = length-piece p.k t.book.now p.forward in
-    let slices = (head r).before.before.before.before.before in
+    let slices = (head r) in
     asks_fits (held_in t.book.now p) c.asked_by.result c.asked_by.ensures t.run.now ahead t.sets.now t.i h
-    (each_byte t.run.now slices.shared-slice-known4.given)
-    (bytes_in p.k t.book.now p.forward (each_byte t.book.now slices.before.before.before.shared-slice-known.given))
+    (each_byte t.run.now slices.shared_slice_known-4-1.given)
+    (bytes_in p.k t.book.now p.forward (each_byte t.book.now slices.shared_slice_known-1.given))
     (omega (arith, k, (fair (kept c)).0)) (omega (arith, k, (fair (kept c)).1)) j b
     ∙ ap (λ (x : Item). fits_at x t.run.now t.sets.now j) (item_is r)
 
 -- every item that was read goes down
-moving : (c : tie.After-loop invariant-loop decreases-loop invariant-loop2 decreases-loop2) → (b : ℕ) → b < (start c.before.before).args.count → 1 ≤ (links (start c.before.before)).k b
-moving c b h = (c.before.loop.invariant.0.ks_fair b (omega (arith, h, c.before.loop.invariant.1, c.loop-test.false))).0
+moving : (c : tie.After-loop-a invariant-loop decreases-loop invariant-loop2 decreases-loop2) → (b : ℕ) → b < (start c.before.before).args.count → 1 ≤ (links (start c.before.before)).k b
+moving c b h = (c.loop-a.invariant.0.ks_fair b (omega (arith, h, c.loop-a.invariant.1, c.loop-a-test.false))).0
 
 -- ---- the row of point j + 1
-module _ (c : tie.In-loop2 invariant-loop decreases-loop invariant-loop2 decreases-loop2) where
-  abbrev passed : tie.At-loop invariant-loop decreases-loop invariant-loop2 decreases-loop2
+module _ (c : tie.In-loop-j invariant-loop decreases-loop invariant-loop2 decreases-loop2) where
+  abbrev passed : tie.At-loop-a invariant-loop decreases-loop invariant-loop2 decreases-loop2
   passed = listed c.before
 
   abbrev t : tie.Start invariant-loop decreases-loop invariant-loop2 decreases-loop2
   t = start passed.before
 
   abbrev up : ℕ
-  up = c.before.loop2.j + 1
+  up = c.loop-j.j + 1
 
-  all_listed : Listed (links t) t.args.i t.args.count passed.loop.rows passed.loop.ks passed.loop.prices
+  all_listed : Listed (links t) t.args.i t.args.count passed.loop-a.rows passed.loop-a.ks passed.loop-a.prices
   all_listed =
-      let e : passed.loop.a ≡ t.args.count = omega (arith, passed.loop.inv.1, c.before.before.loop-test.false) in
-      subst (λ (x : ℕ). Listed (links t) t.args.i x passed.loop.rows passed.loop.ks passed.loop.prices) e passed.loop.inv.0
+      let e : passed.loop-a.a ≡ t.args.count = omega (arith, passed.loop-a.invariant.1, c.loop-a-test.false) in
+      subst (λ (x : ℕ). Listed (links t) t.args.i x passed.loop-a.rows passed.loop-a.ks passed.loop-a.prices) e passed.loop-a.invariant.0
 
   within : up ≤ t.args.i
-  within = omega (arith, c.loop2-test.true)
+  within = omega (arith, c.loop-j-test.true)
 
-  choice-is : let r = cheapest passed.loop.ks passed.loop.prices c.before.loop2.fewest up (get_or passed.loop.rows up 0) in
-      Chosen (links t) c.before.loop2.fewest up t.args.count r.number r.item
+  choice-is : let r = cheapest passed.loop-a.ks passed.loop-a.prices c.loop-j.fewest up (get_or passed.loop-a.rows up 0) in
+      Chosen (links t) c.loop-j.fewest up t.args.count r.number r.item
   choice-is =
-      cheapest-chosen (links t) passed.loop.ks passed.loop.prices c.before.loop2.fewest up (get_or passed.loop.rows up 0) (few-items passed.before)
+      cheapest-chosen (links t) passed.loop-a.ks passed.loop-a.prices c.loop-j.fewest up (get_or passed.loop-a.rows up 0) (few-items passed.before)
       (all_listed.fits_are up within) all_listed.ks_are all_listed.prices_are
 
-  room : (b : ℕ) → member (get_or passed.loop.rows up 0) b ≡ true → get_or passed.loop.ks b 0 ≤ up
+  room : (b : ℕ) → member (get_or passed.loop-a.rows up 0) b ≡ true → get_or passed.loop-a.ks b 0 ≤ up
   room b e =
       let both_hold : T (both (ltb b t.args.count) ((links t).fit b up)) = true_t _ (sym (all_listed.fits_are up within b) ∙ e) in
       let l : b < t.args.count = ltb→lt b t.args.count (both_l _ ((links t).fit b up) both_hold) in
@@ -157,160 +157,160 @@ module _ (c : tie.In-loop2 invariant-loop decreases-loop invariant-loop2 decreas
         fits-room (recorded a.book.now a.places.now b) a.run.now a.sets.now up (T_true _ (both_r (ltb b a.count) _ both_hold)),
       )
 
-no-points-requires : tie.Need-no-points-requires invariant-loop decreases-loop invariant-loop2 decreases-loop2
+no-points-requires : tie.Need-no_points-requires invariant-loop decreases-loop invariant-loop2 decreases-loop2
 no-points-requires c κs = search rules
 
-returns : tie.Need-returns invariant-loop decreases-loop invariant-loop2 decreases-loop2
-returns c = record { numbered = λ items points moving short. absurd (omega (arith, c.before.if1.true, items)) }
+returns : tie.Need-returns-then-count-gt64 invariant-loop decreases-loop invariant-loop2 decreases-loop2
+returns c = record { numbered = λ items points moving short. absurd (omega (arith, c.if-count-gt64.true, items)) }
 
-no-points-requires-2 : tie.Need-no-points-requires-2 invariant-loop decreases-loop invariant-loop2 decreases-loop2
+no-points-requires-2 : tie.Need-no_points-requires-then-i-gt32 invariant-loop decreases-loop invariant-loop2 decreases-loop2
 no-points-requires-2 c κs = search rules
 
-returns-2 : tie.Need-returns-2 invariant-loop decreases-loop invariant-loop2 decreases-loop2
-returns-2 c = record { numbered = λ items points moving short. absurd (omega (arith, c.before.if2.true, points)) }
+returns-2 : tie.Need-returns-then-i-gt32 invariant-loop decreases-loop invariant-loop2 decreases-loop2
+returns-2 c = record { numbered = λ items points moving short. absurd (omega (arith, c.if-i-gt32.true, points)) }
 
-look-ahead-requires : tie.Need-look-ahead-requires invariant-loop decreases-loop invariant-loop2 decreases-loop2
-look-ahead-requires c κs = (omega (arith, c.before.if2.false), refl)
+look-ahead-requires : tie.Need-look_ahead-requires invariant-loop decreases-loop invariant-loop2 decreases-loop2
+look-ahead-requires c κs = (omega (arith, c.if-i-gt32.false), refl)
 
-loop-holds : tie.Need-loop-init invariant-loop decreases-loop invariant-loop2 decreases-loop2
+loop-holds : tie.Need-loop-a-init invariant-loop decreases-loop invariant-loop2 decreases-loop2
 loop-holds c = (none_listed (links (start c)) _ (few-points c), omega arith)
 
-word-at-requires : tie.Need-word-at-requires invariant-loop decreases-loop invariant-loop2 decreases-loop2
+word-at-requires : tie.Need-word_at-requires invariant-loop decreases-loop invariant-loop2 decreases-loop2
 word-at-requires c κs = search rules
 
-parts-at-requires : tie.Need-parts-at-requires invariant-loop decreases-loop invariant-loop2 decreases-loop2
+parts-at-requires : tie.Need-parts_at-item-requires invariant-loop decreases-loop invariant-loop2 decreases-loop2
 parts-at-requires c κs = search rules
 
-no-points-requires-3 : tie.Need-no-points-requires-3 invariant-loop decreases-loop invariant-loop2 decreases-loop2
+no-points-requires-3 : tie.Need-no_points-requires-then-item-lt1 invariant-loop decreases-loop invariant-loop2 decreases-loop2
 no-points-requires-3 c κs = search rules
 
-returns-3 : tie.Need-returns-3 invariant-loop decreases-loop invariant-loop2 decreases-loop2
+returns-3 : tie.Need-returns-then-item-lt1 invariant-loop decreases-loop invariant-loop2 decreases-loop2
 returns-3 c =
-    let p = c.before.before.before in
+    let p = c in
     record {
-      numbered = λ items points moving short. absurd (omega (arith, c.before.if3.true, k_is p, moving (a p) p.before.before.loop-test.true));
+      numbered = λ items points moving short. absurd (omega (arith, c.if-item-lt1.true, k_is p.before.before.before, moving (a p.before.before.before) p.loop-a-test.true));
     }
 
-no-points-requires-4 : tie.Need-no-points-requires-4 invariant-loop decreases-loop invariant-loop2 decreases-loop2
+no-points-requires-4 : tie.Need-no_points-requires-then-item-gt8 invariant-loop decreases-loop invariant-loop2 decreases-loop2
 no-points-requires-4 c κs = search rules
 
-returns-4 : tie.Need-returns-4 invariant-loop decreases-loop invariant-loop2 decreases-loop2
+returns-4 : tie.Need-returns-then-item-gt8 invariant-loop decreases-loop invariant-loop2 decreases-loop2
 returns-4 c =
-    let p = c.before.before.before.before.before in
+    let p = c in
     record {
-      numbered = λ items points moving short. absurd (omega (arith, c.before.if4.true, k_is p, short (a p) p.before.before.loop-test.true));
+      numbered = λ items points moving short. absurd (omega (arith, c.if-item-gt8.true, k_is p.before.before.before.before.before, short (a p.before.before.before.before.before) p.loop-a-test.true));
     }
 
-cast-ks : tie.Need-overflow-cast-ks invariant-loop decreases-loop invariant-loop2 decreases-loop2
+cast-ks : tie.Need-overflow_cast-ks invariant-loop decreases-loop invariant-loop2 decreases-loop2
 cast-ks c = omega (arith, (fair c).1)
 
-array-write-ks : tie.Need-array-write-ks invariant-loop decreases-loop invariant-loop2 decreases-loop2
+array-write-ks : tie.Need-bounds-ks-a invariant-loop decreases-loop invariant-loop2 decreases-loop2
 array-write-ks c = known (parts c)
 
 price-requires : tie.Need-price-requires invariant-loop decreases-loop invariant-loop2 decreases-loop2
-price-requires c κs = let e = (parts c).parts_at.ensures in omega (arith, e.r_byte, e.inside)
+price-requires c κs = let e = (parts c).parts_at-item.ensures in omega (arith, e.r_byte, e.inside)
 
-cast-prices : tie.Need-overflow-cast-prices invariant-loop decreases-loop invariant-loop2 decreases-loop2
+cast-prices : tie.Need-overflow_cast-prices invariant-loop decreases-loop invariant-loop2 decreases-loop2
 cast-prices c = omega (arith, c.price.ensures.1)
 
-mul-prices : tie.Need-overflow-mul-prices invariant-loop decreases-loop invariant-loop2 decreases-loop2
+mul-prices : tie.Need-offset_bounds-prices-a invariant-loop decreases-loop invariant-loop2 decreases-loop2
 mul-prices c = omega (arith, known (parts c.before))
 
-array-write-prices : tie.Need-array-write-prices invariant-loop decreases-loop invariant-loop2 decreases-loop2
+array-write-prices : tie.Need-bounds-prices-a invariant-loop decreases-loop invariant-loop2 decreases-loop2
 array-write-prices c = known (parts c.before)
 
-asked-by-requires : tie.Need-asked-by-requires invariant-loop decreases-loop invariant-loop2 decreases-loop2
+asked-by-requires : tie.Need-asked_by-requires invariant-loop decreases-loop invariant-loop2 decreases-loop2
 asked-by-requires c κs = fair c.before
 
 mark-requires : tie.Need-mark-requires invariant-loop decreases-loop invariant-loop2 decreases-loop2
 mark-requires c κs =
     let p = read c.before.before in
-    (known p, few-points (head p).before, (head p).loop.inv.0.rows_size)
+    (known p, few-points (head p).before, (head p).loop-a.invariant.0.rows_size)
 
-add_a : tie.Need-overflow-add-a invariant-loop decreases-loop invariant-loop2 decreases-loop2
+add_a : tie.Need-overflow_step-a invariant-loop decreases-loop invariant-loop2 decreases-loop2
 add_a c = omega (arith, known (read c.before.before.before))
 
-loop-less : tie.Need-loop-smaller invariant-loop decreases-loop invariant-loop2 decreases-loop2
-loop-less c = let p = read c.before.before.before in omega (arith, p.before.before.loop-test.taken)
+loop-less : tie.Need-loop-a-smaller invariant-loop decreases-loop invariant-loop2 decreases-loop2
+loop-less c = let p = read c.before.before.before in omega (arith, p.loop-a-test.true)
 
-loop-again : tie.Need-loop-preserved invariant-loop decreases-loop invariant-loop2 decreases-loop2
+loop-again : tie.Need-loop-a-preserved invariant-loop decreases-loop invariant-loop2 decreases-loop2
 loop-again c =
-    let q = c.before.before.before in
-    let p = read q in
+    let q = c in
+    let p = read q.before.before.before in
     let t = (s p).args in (
-      one_listed (links (s p)) t.i (a p) _ _ q.asked_by.result _ t.sets.now (known p) (head p).loop.inv.0 c.mark.ensures
-          (fit_is q _ (head p).before.look-ahead.ensures) (k_is p)
-          (q.before.price.ensures.0 ∙ ap (λ (x : Item). sum_of t.weights.now x.reverse) (item_is p)) (fair (kept q)),
-      omega (arith, p.before.before.loop-test.taken),
+      one_listed (links (s p)) t.i (a p) _ _ q.asked_by.result _ t.sets.now (known p) (head p).loop-a.invariant.0 c.mark.ensures
+          (fit_is q.before.before.before _ (head p).look_ahead.ensures) (k_is p)
+          (q.price.ensures.0 ∙ ap (λ (x : Item). sum_of t.weights.now x.reverse) (item_is p)) (fair (kept q.before.before.before)),
+      omega (arith, p.loop-a-test.true),
     )
 
-array-write-fewest : tie.Need-array-write-fewest invariant-loop decreases-loop invariant-loop2 decreases-loop2
+array-write-fewest : tie.Need-bounds-fewest-0 invariant-loop decreases-loop invariant-loop2 decreases-loop2
 array-write-fewest c = omega arith
 
-loop2-holds : tie.Need-loop2-init invariant-loop decreases-loop invariant-loop2 decreases-loop2
+loop2-holds : tie.Need-loop-j-init invariant-loop decreases-loop invariant-loop2 decreases-loop2
 loop2-holds c = (numbered-start (links (start c.before.before)) (moving c), omega arith)
 
-add-best : tie.Need-overflow-add-best invariant-loop decreases-loop invariant-loop2 decreases-loop2
+add-best : tie.Need-overflow_add-j invariant-loop decreases-loop invariant-loop2 decreases-loop2
 add-best c = omega arith
 
-mul-best : tie.Need-overflow-mul-best invariant-loop decreases-loop invariant-loop2 decreases-loop2
+mul-best : tie.Need-offset_bounds-rows-j invariant-loop decreases-loop invariant-loop2 decreases-loop2
 mul-best c = omega arith
 
-array-read-best : tie.Need-array-read-best invariant-loop decreases-loop invariant-loop2 decreases-loop2
+array-read-best : tie.Need-bounds-rows-j invariant-loop decreases-loop invariant-loop2 decreases-loop2
 array-read-best c = omega arith
 
-add-best-2 : tie.Need-overflow-add-best-2 invariant-loop decreases-loop invariant-loop2 decreases-loop2
+add-best-2 : tie.Need-overflow_add-j-in-loop-j invariant-loop decreases-loop invariant-loop2 decreases-loop2
 add-best-2 c = omega arith
 
-best-requires : tie.Need-best-requires invariant-loop decreases-loop invariant-loop2 decreases-loop2
-best-requires c κs = let k = c.before.before.before in (omega (arith, within k, few-points (passed k).before), room k)
+best-requires : tie.Need-best-choice-requires invariant-loop decreases-loop invariant-loop2 decreases-loop2
+best-requires c κs = let k = c in (omega (arith, within k.before.before.before, few-points (passed k.before.before.before).before), room k.before.before.before)
 
-cast-fewest : tie.Need-overflow-cast-fewest invariant-loop decreases-loop invariant-loop2 decreases-loop2
+cast-fewest : tie.Need-overflow_cast-fewest invariant-loop decreases-loop invariant-loop2 decreases-loop2
 cast-fewest c =
-    let r = c.before.best in
-    let k = c.before.before.before.before.before in
-    omega (arith, (choice-is k).most, ap (λ (x : Choice). x.number) r.ensures)
+    let r = c.best-choice in
+    let k = c in
+    omega (arith, (choice-is k.before.before.before.before.before).most, ap (λ (x : Choice). x.number) r.ensures)
 
-add-fewest : tie.Need-overflow-add-fewest invariant-loop decreases-loop invariant-loop2 decreases-loop2
+add-fewest : tie.Need-overflow_add-fewest invariant-loop decreases-loop invariant-loop2 decreases-loop2
 add-fewest c = omega arith
 
-mul-fewest : tie.Need-overflow-mul-fewest invariant-loop decreases-loop invariant-loop2 decreases-loop2
+mul-fewest : tie.Need-offset_bounds-fewest-j invariant-loop decreases-loop invariant-loop2 decreases-loop2
 mul-fewest c = omega arith
 
-array-write-fewest-2 : tie.Need-array-write-fewest-2 invariant-loop decreases-loop invariant-loop2 decreases-loop2
+array-write-fewest-2 : tie.Need-bounds-fewest-j invariant-loop decreases-loop invariant-loop2 decreases-loop2
 array-write-fewest-2 c = omega arith
 
-add-items : tie.Need-overflow-add-items invariant-loop decreases-loop invariant-loop2 decreases-loop2
+add-items : tie.Need-overflow_add-items invariant-loop decreases-loop invariant-loop2 decreases-loop2
 add-items c = omega arith
 
-array-write-items : tie.Need-array-write-items invariant-loop decreases-loop invariant-loop2 decreases-loop2
+array-write-items : tie.Need-bounds-items-j invariant-loop decreases-loop invariant-loop2 decreases-loop2
 array-write-items c = omega arith
 
-add-j : tie.Need-overflow-add-j invariant-loop decreases-loop invariant-loop2 decreases-loop2
+add-j : tie.Need-overflow_add-j-in-loop-j-2 invariant-loop decreases-loop invariant-loop2 decreases-loop2
 add-j c = omega arith
 
-loop2-less : tie.Need-loop2-smaller invariant-loop decreases-loop invariant-loop2 decreases-loop2
+loop2-less : tie.Need-loop-j-smaller invariant-loop decreases-loop invariant-loop2 decreases-loop2
 loop2-less c = omega arith
 
-loop2-again : tie.Need-loop2-preserved invariant-loop decreases-loop invariant-loop2 decreases-loop2
+loop2-again : tie.Need-loop-j-preserved invariant-loop decreases-loop invariant-loop2 decreases-loop2
 loop2-again c =
-    let r = c.before.best in
-    let k = c.before.before.before.before.before in
-    let l = k.before.loop2 in (
-      numbered_next (links (t k)) (moving k.before.before) l.j l.fewest l.items _ _ (omega (arith, within k, few-points (passed k).before)) l.invariant.0
-          (subst (λ (x : Choice). Chosen (links (t k)) l.fewest (up k) (t k).args.count x.number x.item) (sym r.ensures) (choice-is k)),
-      within k,
+    let r = c.best-choice in
+    let k = c in
+    let l = k.loop-j in (
+      numbered_next (links (t k.before.before.before.before.before)) (moving k.before.before.before.before.before.before.before) l.j l.fewest l.items _ _ (omega (arith, within k.before.before.before.before.before, few-points (passed k.before.before.before.before.before).before)) l.invariant.0
+          (subst (λ (x : Choice). Chosen (links (t k.before.before.before.before.before)) l.fewest (up k.before.before.before.before.before) (t k.before.before.before.before.before).args.count x.number x.item) (sym r.ensures) (choice-is k.before.before.before.before.before)),
+      within k.before.before.before.before.before,
     )
 
-returns-5 : tie.Need-returns-5 invariant-loop decreases-loop invariant-loop2 decreases-loop2
+returns-5 : tie.Need-returns invariant-loop decreases-loop invariant-loop2 decreases-loop2
 returns-5 c =
-    let l = c.before.loop2 in
+    let l = c.loop-j in
     let s = start (listed c.before).before in
     let done : l.j ≡ s.args.i = omega (arith, l.invariant.1) in
     record { numbered = λ items points moving short. subst (λ (x : ℕ). Numbered (links s) x l.fewest l.items) done l.invariant.0 }
 
-pub points-of-spec : {M : Type 1} → statement M
-points-of-spec =
+pub points_of_spec : {M : Type 1} → statement M
+points_of_spec =
     tie.close
     (tie.spec
     invariant-loop

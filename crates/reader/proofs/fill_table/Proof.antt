@@ -18,92 +18,92 @@ use Rattle.octets.proofs.u16_at.Reads as u16-at-reads
 use Rattle.moves.proofs.clear.Reads as clear_reads
 use Rattle.reader.proofs.fill.put_move.Reads as put-move-reads
 
-abbrev invariant-loop : tie.invariant-loop
+abbrev invariant-loop : tie.invariant-loop-at
 invariant-loop book table₀ n m at₀ table at =
     (at ≤ length book) × (length table ≡ length table₀)
     × ((b : Book) → AllowedBook b → bytes_of b ≡ book → Entering book b (filled b.m b.moves table₀) at table)
 
-abbrev decreases-loop : tie.decreases-loop
+abbrev decreases-loop : tie.decreases-loop-at
 decreases-loop book table₀ n m at₀ table at = length book - at
 
-byte-at-requires : tie.Need-byte-at-requires invariant-loop decreases-loop
+byte-at-requires : tie.Need-byte_at-n-requires invariant-loop decreases-loop
 byte-at-requires c κs = search rules
 
-byte-at-requires-2 : tie.Need-byte-at-requires-2 invariant-loop decreases-loop
+byte-at-requires-2 : tie.Need-byte_at-m-requires invariant-loop decreases-loop
 byte-at-requires-2 c κs = search rules
 
-mul-clear : tie.Need-overflow-mul-clear invariant-loop decreases-loop
+mul-clear : tie.Need-overflow_mul-n invariant-loop decreases-loop
 mul-clear c =
-    omega (arith, index-small c.before.before.byte_at.result c.before.byte-at2.result 0 (omega arith) (omega arith) (omega arith))
+    omega (arith, index-small c.before.before.byte_at-n.result c.before.byte_at-m.result 0 (omega arith) (omega arith) (omega arith))
 
 clear-requires : tie.Need-clear-requires invariant-loop decreases-loop
 clear-requires c κs = search rules
 
-first-move-requires : tie.Need-first-move-requires invariant-loop decreases-loop
+first-move-requires : tie.Need-first_move-at-requires invariant-loop decreases-loop
 first-move-requires c κs = search rules
 
-same_length : tie.Need-same-length invariant-loop decreases-loop
+same_length : tie.Need-shape_of-table-then-book-at invariant-loop decreases-loop
 same_length c = search rules
 
-returns : tie.Need-returns invariant-loop decreases-loop
+returns : tie.Need-returns-then-book-at invariant-loop decreases-loop
 returns c =
     let d = c.before in
-    table_filled _ _ _ _ _ _ _ d.before.before.before.before.before.before.byte_at.ensures.0 d.before.before.before.before.before.byte-at2.ensures.0 d.before.before.before.clear.ensures
-    (λ b a e. too_few (entering _ a (c.before.move_at_first.ensures.0.begins b a e)) (omega arith))
+    table_filled _ _ _ _ _ _ _ d.before.before.before.before.before.before.byte_at-n.ensures.0 d.before.before.before.before.before.byte_at-m.ensures.0 d.before.before.before.clear.ensures
+    (λ b a e. too_few (entering _ a (c.before.first_move-at.ensures.0.begins b a e)) (omega arith))
 
-loop-holds : tie.Need-loop-init invariant-loop decreases-loop
-loop-holds c = (omega arith, refl, λ b a e. entering _ a (c.before.move_at_first.ensures.0.begins b a e))
+loop-holds : tie.Need-loop-at-init invariant-loop decreases-loop
+loop-holds c = (omega arith, refl, λ b a e. entering _ a (c.before.first_move-at.ensures.0.begins b a e))
 
-sub-loop : tie.Need-overflow-sub-loop invariant-loop decreases-loop
+sub-loop : tie.Need-overflow_sub-book invariant-loop decreases-loop
 sub-loop c = search rules
 
-add-u16-at : tie.Need-overflow-add-u16-at invariant-loop decreases-loop
+add-u16-at : tie.Need-overflow_add-at invariant-loop decreases-loop
 add-u16-at c = search rules
 
-u16-at-requires : tie.Need-u16-at-requires invariant-loop decreases-loop
+u16-at-requires : tie.Need-u16_at-requires invariant-loop decreases-loop
 u16-at-requires c κs = search rules
 
-same-length-2 : tie.Need-same-length-2 invariant-loop decreases-loop
+same-length-2 : tie.Need-shape_of-table-then-u16_at-ne2 invariant-loop decreases-loop
 same-length-2 c = search rules
 
-returns-2 : tie.Need-returns-2 invariant-loop decreases-loop
+returns-2 : tie.Need-returns-then-u16_at-ne2 invariant-loop decreases-loop
 returns-2 c =
     let d = c.before.before.before.before.before in
-    table_filled _ _ _ _ _ _ _ d.before.before.before.before.before.before.byte_at.ensures.0 d.before.before.before.before.before.byte-at2.ensures.0 d.before.before.before.clear.ensures
-    (λ b a e. other_stands (c.before.before.before.loop.invariant.2 b a e) (λ k. c.if2.true (c.before.u16-at.ensures.0 ∙ k)))
+    table_filled _ _ _ _ _ _ _ d.before.before.before.before.before.before.byte_at-n.ensures.0 d.before.before.before.before.before.byte_at-m.ensures.0 d.before.before.before.clear.ensures
+    (λ b a e. other_stands (c.before.before.before.loop-at.invariant.2 b a e) (λ k. c.if-u16_at-ne2.true (c.before.u16_at.ensures.0 ∙ k)))
 
-put-move-requires : tie.Need-put-move-requires invariant-loop decreases-loop
+put-move-requires : tie.Need-put_move-requires invariant-loop decreases-loop
 put-move-requires c κs = (omega arith, omega arith)
 
-add_at : tie.Need-overflow-add-at invariant-loop decreases-loop
+add_at : tie.Need-overflow_add-at-in-loop-at invariant-loop decreases-loop
 add_at c = search rules
 
-loop-less : tie.Need-loop-smaller invariant-loop decreases-loop
+loop-less : tie.Need-loop-at-smaller invariant-loop decreases-loop
 loop-less c = omega arith
 
-loop-again : tie.Need-loop-preserved invariant-loop decreases-loop
+loop-again : tie.Need-loop-at-preserved invariant-loop decreases-loop
 loop-again c =
     let k = c.before.before.before.before.before.before.before in
-    let v = k.loop.invariant in (
+    let v = k.loop-at.invariant in (
       omega arith,
       search rules,
       λ b a e.
-          entered a (v.2 b a e) _ _ (k.before.before.before.before.before.before.before.byte-at2.ensures.0 ∙ m_at _ b e)
-          (sym c.before.before.before.before.before.u16-at.ensures.0 ∙ c.before.before.before.before.if2.false)
-          c.before.before.put-move.ensures,
+          entered a (v.2 b a e) _ _ (k.before.before.before.before.before.before.before.byte_at-m.ensures.0 ∙ m_at _ b e)
+          (sym c.before.before.before.before.before.u16_at.ensures.0 ∙ c.before.before.before.before.if-u16_at-ne2.false)
+          c.before.before.put_move.ensures,
     )
 
-same-length-3 : tie.Need-same-length-3 invariant-loop decreases-loop
+same-length-3 : tie.Need-shape_of-table invariant-loop decreases-loop
 same-length-3 c = search rules
 
-returns-3 : tie.Need-returns-3 invariant-loop decreases-loop
+returns-3 : tie.Need-returns invariant-loop decreases-loop
 returns-3 c =
     let d = c.before.before.before in
-    table_filled _ _ _ _ _ _ _ d.before.before.before.before.before.before.byte_at.ensures.0 d.before.before.before.before.before.byte-at2.ensures.0 d.before.before.before.clear.ensures
-    (λ b a e. too_few (c.before.loop.invariant.2 b a e) (omega arith))
+    table_filled _ _ _ _ _ _ _ d.before.before.before.before.before.before.byte_at-n.ensures.0 d.before.before.before.before.before.byte_at-m.ensures.0 d.before.before.before.clear.ensures
+    (λ b a e. too_few (c.before.loop-at.invariant.2 b a e) (omega arith))
 
-pub fill-table-spec : {M : Type 1} → statement M
-fill-table-spec =
+pub fill_table_spec : {M : Type 1} → statement M
+fill_table_spec =
     tie.close
     (tie.spec
     invariant-loop

@@ -15,61 +15,61 @@ use Rattle.items.proofs.weight_at.Reads as weight-at-reads
 use Rattle.octets.proofs.byte_at.Reads as byte-at-reads
 use Rattle.reader.proofs.fill.store_weight.Reads as store-weight-reads
 
-abbrev invariant-loop : tie.invariant-loop
+abbrev invariant-loop : tie.invariant-loop-command
 invariant-loop book weights₀ m command₀ weights command =
     (command ≤ m) × (length weights ≡ length weights₀)
     × ((b : Book) → AllowedBook b → bytes_of b ≡ book → Weighing b (weights_left b weights₀) command weights)
 
-abbrev decreases-loop : tie.decreases-loop
+abbrev decreases-loop : tie.decreases-loop-command
 decreases-loop book weights₀ m command₀ weights command = m - command
 
-byte-at-requires : tie.Need-byte-at-requires invariant-loop decreases-loop
+byte-at-requires : tie.Need-byte_at-m-requires invariant-loop decreases-loop
 byte-at-requires c κs = search rules
 
-loop-holds : tie.Need-loop-init invariant-loop decreases-loop
+loop-holds : tie.Need-loop-command-init invariant-loop decreases-loop
 loop-holds c = (omega arith, refl, λ b a e. weighing b _)
 
-cast-weight-at : tie.Need-overflow-cast-weight-at invariant-loop decreases-loop
+cast-weight-at : tie.Need-overflow_cast-command invariant-loop decreases-loop
 cast-weight-at c = search rules
 
-weight-at-requires : tie.Need-weight-at-requires invariant-loop decreases-loop
+weight-at-requires : tie.Need-weight_at-requires invariant-loop decreases-loop
 weight-at-requires c κs = search rules
 
-cast-store-weight : tie.Need-overflow-cast-store-weight invariant-loop decreases-loop
+cast-store-weight : tie.Need-overflow_cast-weight_at invariant-loop decreases-loop
 cast-store-weight c = search rules
 
-store-weight-requires : tie.Need-store-weight-requires invariant-loop decreases-loop
+store-weight-requires : tie.Need-store_weight-requires invariant-loop decreases-loop
 store-weight-requires c κs = search rules
 
-add-command : tie.Need-overflow-add-command invariant-loop decreases-loop
+add-command : tie.Need-overflow_add-command invariant-loop decreases-loop
 add-command c = omega arith
 
-loop-less : tie.Need-loop-smaller invariant-loop decreases-loop
+loop-less : tie.Need-loop-command-smaller invariant-loop decreases-loop
 loop-less c = omega arith
 
-loop-again : tie.Need-loop-preserved invariant-loop decreases-loop
+loop-again : tie.Need-loop-command-preserved invariant-loop decreases-loop
 loop-again c =
-    let v = c.before.before.before.before.before.before.loop.invariant in
-    let m = c.before.before.before.before.before.before.before.byte_at.ensures.0 in (
+    let v = c.before.before.before.before.before.before.loop-command.invariant in
+    let m = c.before.before.before.before.before.before.before.byte_at-m.ensures.0 in (
       omega arith,
       search rules,
       λ b a e.
-          let known : c.before.before.before.before.before.before.loop.command < b.m = omega (arith, m ∙ m_at _ b e, c.before.before.before.before.before.loop-test.true) in
-          weighed a (v.2 b a e) known _ (c.before.before.before.weight-at.ensures.0.weight b a e known) _ c.before.before.store-weight.ensures,
+          let known : c.before.before.before.before.before.before.loop-command.command < b.m = omega (arith, m ∙ m_at _ b e, c.before.before.before.before.before.loop-command-test.true) in
+          weighed a (v.2 b a e) known _ (c.before.before.before.weight_at.ensures.0.weight b a e known) _ c.before.before.store_weight.ensures,
     )
 
-same_length : tie.Need-same-length invariant-loop decreases-loop
+same_length : tie.Need-shape_of-weights invariant-loop decreases-loop
 same_length c = search rules
 
 returns : tie.Need-returns invariant-loop decreases-loop
 returns c =
     record {
       each = λ b a e.
-          all-weighed a (c.before.loop.invariant.2 b a e) (omega (arith, c.before.before.byte_at.ensures.0 ∙ m_at _ b e, c.loop-test.false));
+          all-weighed a (c.before.loop-command.invariant.2 b a e) (omega (arith, c.before.before.byte_at-m.ensures.0 ∙ m_at _ b e, c.loop-command-test.false));
     }
 
-pub fill-weights-spec : {M : Type 1} → statement M
-fill-weights-spec =
+pub fill_weights_spec : {M : Type 1} → statement M
+fill_weights_spec =
     tie.close
     (tie.spec
     invariant-loop

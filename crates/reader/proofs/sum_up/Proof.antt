@@ -13,5 +13,5 @@ pass-requires c κs = search rules
 returns : tie.Need-returns
 returns c = c.pass.ensures.1.1 refl
 
-pub sum-up-spec : {M : Type 1} → statement M
-sum-up-spec = tie.close (tie.spec pass-requires returns)
+pub sum_up_spec : {M : Type 1} → statement M
+sum_up_spec = tie.close (tie.spec pass-requires returns)

@@ -6,21 +6,21 @@ use Rattle.reader.proofs.fill.store_weight.Tie as tie
 use Rattle.reader.proofs.fill.store_weight.Reads as reads
 use Rattle.reader.proofs.fill.store_weight.Lts as lts
 
-mul-weights : tie.Need-overflow-mul-weights
+mul-weights : tie.Need-offset_bounds-weights-i
 mul-weights c = search rules
 
-slice-write-weights : tie.Need-slice-write-weights
+slice-write-weights : tie.Need-bounds-weights-i
 slice-write-weights c = search rules
 
-same_length : tie.Need-same-length
+same_length : tie.Need-shape_of-weights
 same_length c = search rules
 
-returns : tie.Need-returns
+returns : tie.Need-returns-then-i-weights
 returns c = search rules
 
-returns-2 : tie.Need-returns-2
-returns-2 c = store_past c.before.args.weights.now _ _ c.if1.false
+returns-2 : tie.Need-returns-else-i-weights
+returns-2 c = store_past c.before.args.weights.now _ _ c.if-i-weights.false
 
-pub store-weight-spec : {M : Type 1} → statement M
-store-weight-spec =
+pub store_weight_spec : {M : Type 1} → statement M
+store_weight_spec =
     tie.close (tie.spec mul-weights slice-write-weights same_length returns returns-2)

@@ -9,17 +9,17 @@ use Rattle.reader.proofs.passing.states_below.Tie as tie
 use Rattle.reader.proofs.passing.states_below.Reads as reads
 use Rattle.reader.proofs.passing.states_below.Lts as lts
 
-shl-result : tie.Need-overflow-shl-result
+shl-result : tie.Need-overflow_shl-result
 shl-result c = search rules
 
-sub-result : tie.Need-overflow-sub-result
-sub-result c = omega (arith, shl_one c.before.args.n c.if1.true, pow_pos c.before.args.n)
+sub-result : tie.Need-overflow_sub-result
+sub-result c = omega (arith, shl_one c.before.args.n c.if-n-lt64.true, pow_pos c.before.args.n)
 
-returns : tie.Need-returns
-returns c = omega (arith, shl_one c.before.args.n c.if1.true, pow_pos c.before.args.n)
+returns : tie.Need-returns-then-n-lt64
+returns c = omega (arith, shl_one c.before.args.n c.if-n-lt64.true, pow_pos c.before.args.n)
 
-returns-2 : tie.Need-returns-2
+returns-2 : tie.Need-returns-else-n-lt64
 returns-2 c = let e : c.before.args.n ≡ 64 = omega arith in rw e
 
-pub states-below-spec : {M : Type 1} → statement M
-states-below-spec = tie.close (tie.spec shl-result sub-result returns returns-2)
+pub states_below_spec : {M : Type 1} → statement M
+states_below_spec = tie.close (tie.spec shl-result sub-result returns returns-2)

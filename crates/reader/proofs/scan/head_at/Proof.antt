@@ -9,42 +9,42 @@ use Rattle.reader.proofs.scan.head_at.Reads as reads
 use Rattle.reader.proofs.scan.head_at.Lts as lts
 use Rattle.octets.proofs.u16_at.Reads as u16-at-reads
 
-returns : tie.Need-returns
-returns c = cut-end c.before.before.args.s.now c.before.before.args.at c.if1.true
+returns : tie.Need-returns-then-n-at
+returns c = cut-end c.before.before.args.s.now c.before.before.args.at c.if-n-at.true
 
-sub-if2 : tie.Need-overflow-sub-if2
+sub-if2 : tie.Need-overflow_sub-n
 sub-if2 c = search rules
 
-returns-2 : tie.Need-returns-2
-returns-2 c = cut-few c.before.before.before.args.s.now c.before.before.before.args.at c.before.if1.false c.if2.true
+returns-2 : tie.Need-returns-then-n-at-lt4
+returns-2 c = cut-few c.before.before.before.args.s.now c.before.before.before.args.at c.before.if-n-at.false c.if-n-at-lt4.true
 
-u16-at-requires : tie.Need-u16-at-requires
+u16-at-requires : tie.Need-u16_at-len-requires
 u16-at-requires c κs = search rules
 
-add-if3 : tie.Need-overflow-add-if3
+add-if3 : tie.Need-overflow_add-at
 add-if3 c = search rules
 
-sub-if3 : tie.Need-overflow-sub-if3
+sub-if3 : tie.Need-overflow_sub-n-2
 sub-if3 c = search rules
 
-returns-3 : tie.Need-returns-3
+returns-3 : tie.Need-returns-then-n-at-2
 returns-3 c =
     let a = c.before.before.before.before.before.args in
-    cut_short a.s.now a.at c.before.before.if2.false (omega (arith, c.before.u16-at.ensures.0))
+    cut_short a.s.now a.at c.before.before.if-n-at-lt4.false (omega (arith, c.before.u16_at-len.ensures.0))
 
-add-u16-at : tie.Need-overflow-add-u16-at
+add-u16-at : tie.Need-overflow_add-at-2
 add-u16-at c = search rules
 
-u16-at-requires-2 : tie.Need-u16-at-requires-2
+u16-at-requires-2 : tie.Need-u16_at-requires
 u16-at-requires-2 c κs = search rules
 
-returns-4 : tie.Need-returns-4
+returns-4 : tie.Need-returns
 returns-4 c =
     let a = c.before.before.before.before.before.before.args in
-    standing a.s.now a.at _ _ c.before.before.before.if2.false c.before.before.u16-at.ensures.0 c.u16-at2.ensures.0 c.before.if3.false
+    standing a.s.now a.at _ _ c.before.before.before.if-n-at-lt4.false c.before.before.u16_at-len.ensures.0 c.u16_at.ensures.0 c.before.if-n-at-2.false
 
-pub head-at-spec : {M : Type 1} → statement M
-head-at-spec =
+pub head_at_spec : {M : Type 1} → statement M
+head_at_spec =
     tie.close
     (tie.spec
     returns

@@ -11,108 +11,101 @@ use Rattle.reader.proofs.scan.turn_at.Lts as lts
 use Rattle.reader.proofs.scan.head_at.Reads as head-at-reads
 use Rattle.reader.proofs.steps.record_step.Reads as record-step-reads
 
-head-at-requires : tie.Need-head-at-requires
+head-at-requires : tie.Need-head_at-head-requires
 head-at-requires c κs = search rules
 
-enum_told : tie.Need-enum-told
+enum_told : tie.Need-enum_told-1
 enum_told c = search rules
 
-returns : tie.Need-returns
+returns : tie.Need-returns-then-st-eq0
 returns c =
-    let k = c.before.before in
-    let a = k.before.before.before.before.args in
-    (over_empty a.s.now a.at a.st (told a.s.now a.at k.enum_told.given.1 k.before.before.head_at.ensures) c.if1.true, tt, tt)
+    let k = c in
+    let a = k.args in
+    (over_empty a.s.now a.at a.st (told a.s.now a.at k.in-Over.is k.head_at-head.ensures) c.if-st-eq0.true, tt, tt)
 
-enum-told-2 : tie.Need-enum-told-2
+enum-told-2 : tie.Need-enum_told-in-Short
 enum-told-2 c = search rules
 
-enum-known-head : tie.Need-enum-known-head
+enum-known-head : tie.Need-enum_known-head
 enum-known-head c = search rules
 
-add-record-step : tie.Need-overflow-add-record-step
+add-record-step : tie.Need-overflow_add-at
 add-record-step c = search rules
 
-add-record-step-2 : tie.Need-overflow-add-record-step-2
+add-record-step-2 : tie.Need-overflow_add-at-in-Whole
 add-record-step-2 c = search rules
 
-add-record-step-3 : tie.Need-overflow-add-record-step-3
+add-record-step-3 : tie.Need-overflow_add-at-in-Whole-2
 add-record-step-3 c =
-    let k = c.before in
-    let a = k.before.before.before.before.args in
-    let f = k.head.given in
-    let h = stood a.s.now a.at f.1 k.before.before.head_at.ensures in
+    let k = c in
+    let a = k.args in
+    let h = stood a.s.now a.at k.in-Whole.is k.head_at-head.ensures in
     omega (arith, h.within)
 
-sub-record-step : tie.Need-overflow-sub-record-step
+sub-record-step : tie.Need-slice_bounds-record_step-count
 sub-record-step c = search rules
 
-part-record-step-start : tie.Need-slice-bounds-record-step-start
+part-record-step-start : tie.Need-slice_bounds-record_step-start
 part-record-step-start c = search rules
 
-part-record-step-end : tie.Need-slice-bounds-record-step-end
+part-record-step-end : tie.Need-slice_bounds-record_step-end
 part-record-step-end c =
-    let k = c.before in
-    let a = k.before.before.before.before.args in
-    let f = k.head.given in
-    let h = stood a.s.now a.at f.1 k.before.before.head_at.ensures in
+    let k = c in
+    let a = k.args in
+    let h = stood a.s.now a.at k.in-Whole.is k.head_at-head.ensures in
     omega (arith, h.within)
 
-record-step-requires : tie.Need-record-step-requires
+record-step-requires : tie.Need-record_step-step-requires
 record-step-requires c κs = search rules
 
-enum-known-step : tie.Need-enum-known-step
+enum-known-step : tie.Need-enum_known-step
 enum-known-step c = search rules
 
-add-t25 : tie.Need-overflow-add-t25
+add-t25 : tie.Need-overflow_add-result
 add-t25 c = search rules
 
-add-t26 : tie.Need-overflow-add-t26
+add-t26 : tie.Need-overflow_add-result-in-Go
 add-t26 c =
-    let k = c.before.before.before.before.before.before in
-    let a = k.before.before.before.before.args in
-    let f = k.head.given in
-    let h = stood a.s.now a.at f.1 k.before.before.head_at.ensures in
+    let k = c in
+    let a = k.args in
+    let h = stood a.s.now a.at k.in-Whole.is k.head_at-head.ensures in
     omega (arith, h.within)
 
-enum-known-step-2 : tie.Need-enum-known-step-2
+enum-known-step-2 : tie.Need-enum_known-step-in-Stop-1
 enum-known-step-2 c = search rules
 
-returns-2 : tie.Need-returns-2
+returns-2 : tie.Need-returns-else-st-eq0
 returns-2 c =
-    let k = c.before.before in
-    let e = k.before.before.before.before in
+    let k = c in
+    let e = k in
     let a = e.args in
-    let t = told a.s.now a.at k.enum_told.given.1 k.before.before.head_at.ensures in
-    (over_end a.s.now a.at a.st t c.if1.false, e.requires.0, t)
+    let t = told a.s.now a.at k.in-Over.is k.head_at-head.ensures in
+    (over_end a.s.now a.at a.st t c.if-st-eq0.false, e.requires.0, t)
 
-returns-3 : tie.Need-returns-3
+returns-3 : tie.Need-returns-in-Short
 returns-3 c =
-    let a = c.before.before.before.before.args in
-    (over_short a.s.now a.at a.st (told a.s.now a.at c.enum-told2.given.1 c.before.before.head_at.ensures), tt, tt)
+    let a = c.args in
+    (over_short a.s.now a.at a.st (told a.s.now a.at c.in-Short.is c.head_at-head.ensures), tt, tt)
 
-returns-4 : tie.Need-returns-4
+returns-4 : tie.Need-returns-in-Go
 returns-4 c =
-    let k = c.before.before.before.before.before.before in
-    let a = k.before.before.before.before.args in
-    let f = k.head.given in
-    let h = stood a.s.now a.at f.1 k.before.before.head_at.ensures in
-    let g = c.before.before.before in
-    let e = c.before.step.given in
-    goes a.s.now a.at a.st f.0.0 f.0.1.0 h g.record-step.result g.record-step.ensures.0 e.0.0 e.1
-    (subst Bounded e.1 g.record-step.ensures.1)
+    let k = c in
+    let a = k.args in
+    let h = stood a.s.now a.at k.in-Whole.is k.head_at-head.ensures in
+    let g = c in
+    goes a.s.now a.at a.st k.in-Whole.len k.in-Whole.kind h g.record_step-step.result g.record_step-step.ensures.0 c.in-Go.next c.in-Go.is
+    (subst Bounded c.in-Go.is g.record_step-step.ensures.1)
 
-returns-5 : tie.Need-returns-5
+returns-5 : tie.Need-returns-in-Stop
 returns-5 c =
-    let k = c.before.before.before.before.before.before in
-    let a = k.before.before.before.before.args in
-    let f = k.head.given in
-    let h = stood a.s.now a.at f.1 k.before.before.head_at.ensures in
-    let g = c.before.before.before in
-    let e = c.before.step2.given in
-    (stops a.s.now a.at a.st f.0.0 f.0.1.0 h g.record-step.result g.record-step.ensures.0 e.0.0 e.1, tt, tt)
+    let k = c in
+    let a = k.args in
+    let h = stood a.s.now a.at k.in-Whole.is k.head_at-head.ensures in
+    let g = c in
+    (stops a.s.now a.at a.st k.in-Whole.len k.in-Whole.kind h g.record_step-step.result g.record_step-step.ensures.0 c.in-Stop.code c.in-Stop.is, tt, tt)
 
-pub turn-at-spec : {M : Type 1} → statement M
-turn-at-spec =
+pub turn_at_spec : {M : Type 1} → statement M
+turn_at_spec =
     tie.close
     (tie.spec
     head-at-requires

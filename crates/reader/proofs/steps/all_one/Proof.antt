@@ -16,48 +16,48 @@ use Rattle.reader.proofs.steps.all_one.Reads as reads
 use Rattle.reader.proofs.steps.all_one.Lts as lts
 use Rattle.octets.proofs.u16_at.Reads as u16-at-reads
 
-abbrev invariant-loop : tie.invariant-loop
+abbrev invariant-loop : tie.invariant-loop-at
 invariant-loop body at₀ at = (all_one (weights_of (drop at body)) ≡ all_one (weights_of body)) × (at ≤ length body)
 
-abbrev decreases-loop : tie.decreases-loop
+abbrev decreases-loop : tie.decreases-loop-at
 decreases-loop body at₀ at = length body - at
 
-loop-holds : tie.Need-loop-init invariant-loop decreases-loop
+loop-holds : tie.Need-loop-at-init invariant-loop decreases-loop
 loop-holds c = (refl, omega arith)
 
-add-loop : tie.Need-overflow-add-loop invariant-loop decreases-loop
+add-loop : tie.Need-overflow_add-at invariant-loop decreases-loop
 add-loop c = omega arith
 
-u16-at-requires : tie.Need-u16-at-requires invariant-loop decreases-loop
+u16-at-requires : tie.Need-u16_at-requires invariant-loop decreases-loop
 u16-at-requires c κs = search rules
 
-returns : tie.Need-returns invariant-loop decreases-loop
+returns : tie.Need-returns-then-u16_at-ne1 invariant-loop decreases-loop
 returns c =
     let read = c.before in
-    let l = read.before.before.loop in
-    left_fails ones_decide _ l.invariant.0 _ _ (weight-here _ l.at read.before.loop-test.true)
-    (off_same _ 1 (λ e. c.if1.true (read.u16-at.ensures.0 ∙ e)))
+    let l = read.before.before.loop-at in
+    left_fails ones_decide _ l.invariant.0 _ _ (weight-here _ l.at read.before.loop-at-test.true)
+    (off_same _ 1 (λ e. c.if-u16_at-ne1.true (read.u16_at.ensures.0 ∙ e)))
 
-add_at : tie.Need-overflow-add-at invariant-loop decreases-loop
+add_at : tie.Need-overflow_add-at-in-loop-at invariant-loop decreases-loop
 add_at c = omega arith
 
-loop-less : tie.Need-loop-smaller invariant-loop decreases-loop
+loop-less : tie.Need-loop-at-smaller invariant-loop decreases-loop
 loop-less c = omega arith
 
-loop-again : tie.Need-loop-preserved invariant-loop decreases-loop
+loop-again : tie.Need-loop-at-preserved invariant-loop decreases-loop
 loop-again c =
     let read = c.before in
-    let l = read.before.before.loop in (
-      left_passes ones_decide _ l.invariant.0 _ _ (weight-here _ l.at read.before.loop-test.true)
-          (on_same _ 1 (sym read.u16-at.ensures.0 ∙ c.if1.false)),
+    let l = read.before.before.loop-at in (
+      left_passes ones_decide _ l.invariant.0 _ _ (weight-here _ l.at read.before.loop-at-test.true)
+          (on_same _ 1 (sym read.u16_at.ensures.0 ∙ c.if-u16_at-ne1.false)),
       omega arith,
     )
 
-returns-2 : tie.Need-returns-2 invariant-loop decreases-loop
-returns-2 c = left-none ones_decide _ c.before.loop.invariant.0 (weight-none _ c.before.loop.at c.loop-test.false)
+returns-2 : tie.Need-returns invariant-loop decreases-loop
+returns-2 c = left-none ones_decide _ c.before.loop-at.invariant.0 (weight-none _ c.before.loop-at.at c.loop-at-test.false)
 
-pub all-one-spec : {M : Type 1} → statement M
-all-one-spec =
+pub all_one_spec : {M : Type 1} → statement M
+all_one_spec =
     tie.close
     (tie.spec
     invariant-loop

@@ -12,36 +12,36 @@ use Rattle.reader.proofs.steps.device_step.Lts as lts
 use Rattle.limits.proofs.device_fine.Reads as device-fine-reads
 use Rattle.octets.proofs.byte_at.Reads as byte-at-reads
 
-returns : tie.Need-returns
+returns : tie.Need-returns-then-st-ne0
 returns c = (search tests depth 6, search rules)
 
-returns-2 : tie.Need-returns-2
+returns-2 : tie.Need-returns-then-body-ne2
 returns-2 c = (search tests depth 12, search rules)
 
-byte-at-requires : tie.Need-byte-at-requires
+byte-at-requires : tie.Need-byte_at-n-requires
 byte-at-requires c κs = search rules
 
-byte-at-requires-2 : tie.Need-byte-at-requires-2
+byte-at-requires-2 : tie.Need-byte_at-m-requires
 byte-at-requires-2 c κs = search rules
 
-device-fine-requires : tie.Need-device-fine-requires
+device-fine-requires : tie.Need-device_fine-requires
 device-fine-requires c κs = search rules
 
-returns-3 : tie.Need-returns-3
+returns-3 : tie.Need-returns-then-not-device_fine
 returns-3 c =
     let b = c.before.before in
-    (simp (← b.before.byte_at.ensures.0, ← b.byte-at2.ensures.0) (search (tests, calls) depth 16), search rules)
+    (simp (← b.before.byte_at-n.ensures.0, ← b.byte_at-m.ensures.0) (search (tests, calls) depth 16), search rules)
 
-returns-4 : tie.Need-returns-4
+returns-4 : tie.Need-returns
 returns-4 c =
     let b = c.before.before in
-    let d = device_on _ _ (sym c.before.device-fine.ensures ∙ not-false _ c.if3.false) in (
-      simp (← b.before.byte_at.ensures.0, ← b.byte-at2.ensures.0) (search (tests, calls) depth 16),
+    let d = device_on _ _ (sym c.before.device_fine.ensures ∙ not-false _ c.if-not-device_fine.false-raw) in (
+      simp (← b.before.byte_at-n.ensures.0, ← b.byte_at-m.ensures.0) (search (tests, calls) depth 16),
       record { n_high = d.n_high; m_high = d.m_high; few = omega arith },
     )
 
-pub device-step-spec : {M : Type 1} → statement M
-device-step-spec =
+pub device_step_spec : {M : Type 1} → statement M
+device_step_spec =
     tie.close
     (tie.spec
     returns

@@ -13,62 +13,62 @@ use Rattle.limits.proofs.counts_fine.Reads as counts-fine-reads
 use Rattle.octets.proofs.byte_at.Reads as byte-at-reads
 use Rattle.reader.proofs.steps.item_fine.Reads as item-fine-reads
 
-returns : tie.Need-returns
+returns : tie.Need-returns-then-st-lt1
 returns c = (search tests depth 6, search rules)
 
-returns-2 : tie.Need-returns-2
+returns-2 : tie.Need-returns-then-st-ge64
 returns-2 c = (search tests depth 6, search rules)
 
-returns-3 : tie.Need-returns-3
+returns-3 : tie.Need-returns-then-body-lt2
 returns-3 c = (search tests depth 8, search rules)
 
-byte-at-requires : tie.Need-byte-at-requires
+byte-at-requires : tie.Need-byte_at-k-requires
 byte-at-requires c κs = search rules
 
-byte-at-requires-2 : tie.Need-byte-at-requires-2
+byte-at-requires-2 : tie.Need-byte_at-r-requires
 byte-at-requires-2 c κs = search rules
 
-counts-fine-requires : tie.Need-counts-fine-requires
+counts-fine-requires : tie.Need-counts_fine-requires
 counts-fine-requires c κs = search rules
 
-returns-4 : tie.Need-returns-4
+returns-4 : tie.Need-returns-then-not-counts_fine
 returns-4 c =
     let b = c.before.before in
-    (simp (← b.before.byte_at.ensures.0, ← b.byte-at2.ensures.0) (search (tests, calls) depth 12), search rules)
+    (simp (← b.before.byte_at-k.ensures.0, ← b.byte_at-r.ensures.0) (search (tests, calls) depth 12), search rules)
 
-add-if5 : tie.Need-overflow-add-if5
+add-if5 : tie.Need-overflow_add-k
 add-if5 c = search rules
 
-add-if5-2 : tie.Need-overflow-add-if5-2
+add-if5-2 : tie.Need-overflow_add-k-2
 add-if5-2 c = search rules
 
-returns-5 : tie.Need-returns-5
+returns-5 : tie.Need-returns-then-body-k
 returns-5 c =
     let b = c.before.before.before in
-    (simp (← b.before.byte_at.ensures.0, ← b.byte-at2.ensures.0) (search (tests, calls) depth 14), search rules)
+    (simp (← b.before.byte_at-k.ensures.0, ← b.byte_at-r.ensures.0) (search (tests, calls) depth 14), search rules)
 
-item-fine-requires : tie.Need-item-fine-requires
+item-fine-requires : tie.Need-item_fine-requires
 item-fine-requires c κs =
     let f = c.before.before in
     let b = f.before in
-    let q = counts_on _ _ (sym f.counts-fine.ensures ∙ not-false _ c.before.if4.false) in
-    record { k_is = b.before.byte_at.ensures.0; r_is = b.byte-at2.ensures.0; k_high = q.1; r_high = q.2; size = omega arith }
+    let q = counts_on _ _ (sym f.counts_fine.ensures ∙ not-false _ c.before.if-not-counts_fine.false-raw) in
+    record { k_is = b.before.byte_at-k.ensures.0; r_is = b.byte_at-r.ensures.0; k_high = q.1; r_high = q.2; size = omega arith }
 
-returns-6 : tie.Need-returns-6
+returns-6 : tie.Need-returns-then-not-item_fine
 returns-6 c =
     let b = c.before.before.before.before.before in
-    (simp (← b.before.byte_at.ensures.0, ← b.byte-at2.ensures.0) (search (tests, calls) depth 16), search rules)
+    (simp (← b.before.byte_at-k.ensures.0, ← b.byte_at-r.ensures.0) (search (tests, calls) depth 16), search rules)
 
-add-t12 : tie.Need-overflow-add-t12
+add-t12 : tie.Need-overflow_add-result
 add-t12 c = search rules
 
-returns-7 : tie.Need-returns-7
+returns-7 : tie.Need-returns
 returns-7 c =
     let b = c.before.before.before.before.before.before in
-    (simp (← b.before.byte_at.ensures.0, ← b.byte-at2.ensures.0) (search (tests, calls) depth 16), search rules)
+    (simp (← b.before.byte_at-k.ensures.0, ← b.byte_at-r.ensures.0) (search (tests, calls) depth 16), search rules)
 
-pub item-step-spec : {M : Type 1} → statement M
-item-step-spec =
+pub item_step_spec : {M : Type 1} → statement M
+item_step_spec =
     tie.close
     (tie.spec
     returns

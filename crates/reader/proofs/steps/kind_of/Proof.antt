@@ -6,25 +6,25 @@ use Rattle.reader.proofs.steps.kind_of.Tie as tie
 use Rattle.reader.proofs.steps.kind_of.Reads as reads
 use Rattle.reader.proofs.steps.kind_of.Lts as lts
 
-returns : tie.Need-returns
+returns : tie.Need-returns-then-number-eq1
 unfolding kind_of
 returns c = search tests
 
-returns-2 : tie.Need-returns-2
+returns-2 : tie.Need-returns-then-number-eq2
 unfolding kind_of
 returns-2 c = search tests
 
-returns-3 : tie.Need-returns-3
+returns-3 : tie.Need-returns-then-number-eq3
 unfolding kind_of
 returns-3 c = search tests
 
-returns-4 : tie.Need-returns-4
+returns-4 : tie.Need-returns-then-number-eq5
 unfolding kind_of
 returns-4 c = search tests
 
-returns-5 : tie.Need-returns-5
+returns-5 : tie.Need-returns
 unfolding kind_of
 returns-5 c = search tests
 
-pub kind-of-spec : {M : Type 1} → statement M
-kind-of-spec = tie.close (tie.spec returns returns-2 returns-3 returns-4 returns-5)
+pub kind_of_spec : {M : Type 1} → statement M
+kind_of_spec = tie.close (tie.spec returns returns-2 returns-3 returns-4 returns-5)

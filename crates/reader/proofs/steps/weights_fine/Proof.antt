@@ -17,51 +17,51 @@ use Rattle.reader.proofs.steps.weights_fine.Lts as lts
 use Rattle.limits.proofs.weight_fine.Reads as weight-fine-reads
 use Rattle.octets.proofs.u16_at.Reads as u16-at-reads
 
-abbrev invariant-loop : tie.invariant-loop
+abbrev invariant-loop : tie.invariant-loop-at
 invariant-loop body at₀ at = (weights_fine (weights_of (drop at body)) ≡ weights_fine (weights_of body)) × (at ≤ length body)
 
-abbrev decreases-loop : tie.decreases-loop
+abbrev decreases-loop : tie.decreases-loop-at
 decreases-loop body at₀ at = length body - at
 
-loop-holds : tie.Need-loop-init invariant-loop decreases-loop
+loop-holds : tie.Need-loop-at-init invariant-loop decreases-loop
 loop-holds c = (refl, omega arith)
 
-add-loop : tie.Need-overflow-add-loop invariant-loop decreases-loop
+add-loop : tie.Need-overflow_add-at invariant-loop decreases-loop
 add-loop c = omega arith
 
-u16-at-requires : tie.Need-u16-at-requires invariant-loop decreases-loop
+u16-at-requires : tie.Need-u16_at-requires invariant-loop decreases-loop
 u16-at-requires c κs = search rules
 
-weight-fine-requires : tie.Need-weight-fine-requires invariant-loop decreases-loop
+weight-fine-requires : tie.Need-weight_fine-requires invariant-loop decreases-loop
 weight-fine-requires c κs = search rules
 
-returns : tie.Need-returns invariant-loop decreases-loop
+returns : tie.Need-returns-then-not-weight_fine invariant-loop decreases-loop
 returns c =
     let read = c.before.before in
-    let l = read.before.before.loop in
-    left_fails fine_decide _ l.invariant.0 _ _ (weight-here _ l.at read.before.loop-test.true)
-    (ap weight_fine (sym read.u16-at.ensures.0) ∙ (sym c.before.weight-fine.ensures ∙ not-true _ c.if1.true))
+    let l = read.before.before.loop-at in
+    left_fails fine_decide _ l.invariant.0 _ _ (weight-here _ l.at read.before.loop-at-test.true)
+    (ap weight_fine (sym read.u16_at.ensures.0) ∙ (sym c.before.weight_fine.ensures ∙ not-true _ c.if-not-weight_fine.true-raw))
 
-add_at : tie.Need-overflow-add-at invariant-loop decreases-loop
+add_at : tie.Need-overflow_add-at-in-loop-at invariant-loop decreases-loop
 add_at c = omega arith
 
-loop-less : tie.Need-loop-smaller invariant-loop decreases-loop
+loop-less : tie.Need-loop-at-smaller invariant-loop decreases-loop
 loop-less c = omega arith
 
-loop-again : tie.Need-loop-preserved invariant-loop decreases-loop
+loop-again : tie.Need-loop-at-preserved invariant-loop decreases-loop
 loop-again c =
     let read = c.before.before in
-    let l = read.before.before.loop in (
-      left_passes fine_decide _ l.invariant.0 _ _ (weight-here _ l.at read.before.loop-test.true)
-          (ap weight_fine (sym read.u16-at.ensures.0) ∙ (sym c.before.weight-fine.ensures ∙ not-false _ c.if1.false)),
+    let l = read.before.before.loop-at in (
+      left_passes fine_decide _ l.invariant.0 _ _ (weight-here _ l.at read.before.loop-at-test.true)
+          (ap weight_fine (sym read.u16_at.ensures.0) ∙ (sym c.before.weight_fine.ensures ∙ not-false _ c.if-not-weight_fine.false-raw)),
       omega arith,
     )
 
-returns-2 : tie.Need-returns-2 invariant-loop decreases-loop
-returns-2 c = left-none fine_decide _ c.before.loop.invariant.0 (weight-none _ c.before.loop.at c.loop-test.false)
+returns-2 : tie.Need-returns invariant-loop decreases-loop
+returns-2 c = left-none fine_decide _ c.before.loop-at.invariant.0 (weight-none _ c.before.loop-at.at c.loop-at-test.false)
 
-pub weights-fine-spec : {M : Type 1} → statement M
-weights-fine-spec =
+pub weights_fine_spec : {M : Type 1} → statement M
+weights_fine_spec =
     tie.close
     (tie.spec
     invariant-loop

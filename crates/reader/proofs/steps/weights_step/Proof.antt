@@ -9,32 +9,32 @@ use Rattle.reader.proofs.steps.weights_step.Lts as lts
 use Rattle.reader.proofs.steps.all_one.Reads as all-one-reads
 use Rattle.reader.proofs.steps.weights_fine.Reads as weights-fine-reads
 
-returns : tie.Need-returns
+returns : tie.Need-returns-then-st-ne3
 returns c = (search tests depth 6, search rules)
 
-mul-if2 : tie.Need-overflow-mul-if2
+mul-if2 : tie.Need-overflow_mul-st
 mul-if2 c = search rules
 
-returns-2 : tie.Need-returns-2
+returns-2 : tie.Need-returns-then-body-st
 returns-2 c = (search tests depth 12, search rules)
 
-weights-fine-requires : tie.Need-weights-fine-requires
+weights-fine-requires : tie.Need-weights_fine-requires
 weights-fine-requires c κs = search rules
 
-returns-3 : tie.Need-returns-3
+returns-3 : tie.Need-returns-then-not-weights_fine
 returns-3 c = (search (tests, calls) depth 16, search rules)
 
-all-one-requires : tie.Need-all-one-requires
+all-one-requires : tie.Need-all_one-requires
 all-one-requires c κs = search rules
 
-returns-4 : tie.Need-returns-4
-returns-4 c = let t = sym c.before.all_one.ensures ∙ c.if4.true in (search (tests, calls) depth 20, search rules)
+returns-4 : tie.Need-returns-then-all_one
+returns-4 c = let t = sym c.before.all_one.ensures ∙ c.if-all_one.true in (search (tests, calls) depth 20, search rules)
 
-returns-5 : tie.Need-returns-5
-returns-5 c = let t = sym c.before.all_one.ensures ∙ c.if4.false in (search (tests, calls) depth 20, search rules)
+returns-5 : tie.Need-returns
+returns-5 c = let t = sym c.before.all_one.ensures ∙ c.if-all_one.false in (search (tests, calls) depth 20, search rules)
 
-pub weights-step-spec : {M : Type 1} → statement M
-weights-step-spec =
+pub weights_step_spec : {M : Type 1} → statement M
+weights_step_spec =
     tie.close
     (tie.spec
     returns

@@ -6,13 +6,13 @@ use Rattle.reader.proofs.units.larger_of.Tie as tie
 use Rattle.reader.proofs.units.larger_of.Reads as reads
 use Rattle.reader.proofs.units.larger_of.Lts as lts
 
-returns : tie.Need-returns
+returns : tie.Need-returns-then-a-b
 unfolding larger
 returns c = search tests
 
-returns-2 : tie.Need-returns-2
+returns-2 : tie.Need-returns
 unfolding larger
 returns-2 c = search tests
 
-pub larger-of-spec : {M : Type 1} → statement M
-larger-of-spec = tie.close (tie.spec returns returns-2)
+pub larger_of_spec : {M : Type 1} → statement M
+larger_of_spec = tie.close (tie.spec returns returns-2)

@@ -14,72 +14,72 @@ use Rattle.items.proofs.psi.Reads as psi-reads
 use Rattle.octets.proofs.u16_at.Reads as u16-at-reads
 use Rattle.reader.proofs.units.larger_of.Reads as larger-of-reads
 
-returns : tie.Need-returns
-returns c = (c.before.before.requires.0, λ e. absurd (false≢true (ap not (sym e) ∙ c.if1.true)))
+returns : tie.Need-returns-then-not-summing
+returns c = (c.before.before.requires.0, λ e. absurd (false≢true (ap not (sym e) ∙ c.if-not-summing.true-raw)))
 
-add-u16-at : tie.Need-overflow-add-u16-at
+add-u16-at : tie.Need-overflow_add-at
 add-u16-at c = search rules
 
-u16-at-requires : tie.Need-u16-at-requires
+u16-at-requires : tie.Need-u16_at-requires
 u16-at-requires c κs = search rules
 
-returns-2 : tie.Need-returns-2
+returns-2 : tie.Need-returns-then-u16_at-ne3
 returns-2 c =
     let e = c.before.before.before.before in
-    let u = c.before.u16-at in
-    (e.requires.0, λ _. adds_nothing e.args.book.now e.args.at e.args.so_far e.requires.0 (λ k. c.if2.true (u.ensures.0 ∙ k)))
+    let u = c.before.u16_at in
+    (e.requires.0, λ _. adds_nothing e.args.book.now e.args.at e.args.so_far e.requires.0 (λ k. c.if-u16_at-ne3.true (u.ensures.0 ∙ k)))
 
-returns-3 : tie.Need-returns-3
+returns-3 : tie.Need-returns-then-so_far-ge64
 returns-3 c =
     let e = c.before.before.before.before.before.before in
-    (e.requires.0, λ _. no_further e.args.book.now e.args.at e.args.so_far e.requires.0 c.if3.true)
+    (e.requires.0, λ _. no_further e.args.book.now e.args.at e.args.so_far e.requires.0 c.if-so_far-ge64.true)
 
-parts-at-requires : tie.Need-parts-at-requires
+parts-at-requires : tie.Need-parts_at-item-requires
 parts-at-requires c κs = search rules
 
 psi-requires : tie.Need-psi-requires
 psi-requires c κs = search rules
 
-cast-starts : tie.Need-overflow-cast-starts
+cast-starts : tie.Need-overflow_cast-starts
 cast-starts c =
     let f : c.psi.result < 2 ^ 64 = search rules in
     omega (arith, ones-most c.psi.result f)
 
-add-t8 : tie.Need-overflow-add-t8
+add-t8 : tie.Need-overflow_add-result
 add-t8 c = search rules
 
-add-t9 : tie.Need-overflow-add-t9
+add-t9 : tie.Need-overflow_add-result-2
 add-t9 c = search rules
 
-mul-t12 : tie.Need-overflow-mul-t12
+mul-t12 : tie.Need-overflow_mul-result
 mul-t12 c =
     let k = c.before.before in
-    let a = k.before.parts_at in
+    let a = k.before.parts_at-item in
     let f : k.psi.result < 2 ^ 64 = search rules in
     omega (arith, product_most k.psi.result a.result.k a.result.r f a.ensures.k_byte a.ensures.r_byte)
 
-add-t13 : tie.Need-overflow-add-t13
+add-t13 : tie.Need-overflow_add-result-3
 add-t13 c =
     let k = c.before.before.before in
-    let a = k.before.parts_at in
+    let a = k.before.parts_at-item in
     let h = c.before.before.before.before.before.before.before.before.before.before.before.requires.0 in
     let f : k.psi.result < 2 ^ 64 = search rules in
     omega (arith, product_most k.psi.result a.result.k a.result.r f a.ensures.k_byte a.ensures.r_byte, h.few, h.units_high)
 
-larger-of-requires : tie.Need-larger-of-requires
+larger-of-requires : tie.Need-larger_of-requires
 larger-of-requires c κs = search rules
 
-returns-4 : tie.Need-returns-4
+returns-4 : tie.Need-returns
 returns-4 c =
     let e = c.before.before.before.before.before.before.before.before.before.before.before.before in
     let k = c.before.before.before.before in
     let f : k.psi.result < 2 ^ 64 = search rules in
-    let t = adds_item e.args.book.now e.args.at e.args.so_far e.requires.0 k.before.parts_at.result k.before.parts_at.ensures k.psi.result
-    k.psi.ensures f (sym c.before.before.before.before.before.before.before.before.before.u16-at.ensures.0 ∙ c.before.before.before.before.before.before.before.before.if2.false) c.before.before.before.before.before.before.if3.false _ c.larger-of.ensures in
+    let t = adds_item e.args.book.now e.args.at e.args.so_far e.requires.0 k.before.parts_at-item.result k.before.parts_at-item.ensures k.psi.result
+    k.psi.ensures f (sym c.before.before.before.before.before.before.before.before.before.u16_at.ensures.0 ∙ c.before.before.before.before.before.before.before.before.if-u16_at-ne3.false) c.before.before.before.before.before.before.if-so_far-ge64.false _ c.larger_of.ensures in
     (t.within, λ _. t)
 
-pub with-record-spec : {M : Type 1} → statement M
-with-record-spec =
+pub with_record_spec : {M : Type 1} → statement M
+with_record_spec =
     tie.close
     (tie.spec
     returns

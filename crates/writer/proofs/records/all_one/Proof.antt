@@ -16,45 +16,45 @@ use Rattle.writer.proofs.records.all_one.Reads as reads
 use Rattle.writer.proofs.records.all_one.Lts as lts
 use Rattle.octets.proofs.word_at.Reads as word-at-reads
 
-abbrev invariant-loop : tie.invariant-loop
+abbrev invariant-loop : tie.invariant-loop-i
 invariant-loop k w i₀ i = (all_one (piece (k - i) w i) ≡ all_one (piece k w 0)) × (i ≤ k)
 
-abbrev decreases-loop : tie.decreases-loop
+abbrev decreases-loop : tie.decreases-loop-i
 decreases-loop k w i₀ i = k - i
 
-loop-holds : tie.Need-loop-init invariant-loop decreases-loop
+loop-holds : tie.Need-loop-i-init invariant-loop decreases-loop
 loop-holds c = (rw sub-zero, omega arith)
 
-word-at-requires : tie.Need-word-at-requires invariant-loop decreases-loop
+word-at-requires : tie.Need-word_at-requires invariant-loop decreases-loop
 word-at-requires c κs = search rules
 
-returns : tie.Need-returns invariant-loop decreases-loop
+returns : tie.Need-returns-then-word_at-ne1 invariant-loop decreases-loop
 returns c =
     let read = c.before in
-    let l = read.before.before.loop in
-    left_fails ones_decide _ l.invariant.0 _ _ (piece-here _ _ l.i read.before.loop-test.true)
-    (off_same _ 1 (λ e. c.if1.true (read.word_at.ensures.0 ∙ e)))
+    let l = read.before.before.loop-i in
+    left_fails ones_decide _ l.invariant.0 _ _ (piece-here _ _ l.i read.before.loop-i-test.true)
+    (off_same _ 1 (λ e. c.if-word_at-ne1.true (read.word_at.ensures.0 ∙ e)))
 
-add-i : tie.Need-overflow-add-i invariant-loop decreases-loop
+add-i : tie.Need-overflow_step-i invariant-loop decreases-loop
 add-i c = omega arith
 
-loop-less : tie.Need-loop-smaller invariant-loop decreases-loop
+loop-less : tie.Need-loop-i-smaller invariant-loop decreases-loop
 loop-less c = omega arith
 
-loop-again : tie.Need-loop-preserved invariant-loop decreases-loop
+loop-again : tie.Need-loop-i-preserved invariant-loop decreases-loop
 loop-again c =
     let read = c.before in
-    let l = read.before.before.loop in (
-      left_passes ones_decide _ l.invariant.0 _ _ (piece-here _ _ l.i read.before.loop-test.true)
-          (on_same _ 1 (sym read.word_at.ensures.0 ∙ c.if1.false)),
+    let l = read.before.before.loop-i in (
+      left_passes ones_decide _ l.invariant.0 _ _ (piece-here _ _ l.i read.before.loop-i-test.true)
+          (on_same _ 1 (sym read.word_at.ensures.0 ∙ c.if-word_at-ne1.false)),
       omega arith,
     )
 
-returns-2 : tie.Need-returns-2 invariant-loop decreases-loop
-returns-2 c = left-none ones_decide _ c.before.loop.invariant.0 (piece-none _ _ c.before.loop.i c.loop-test.false)
+returns-2 : tie.Need-returns invariant-loop decreases-loop
+returns-2 c = left-none ones_decide _ c.before.loop-i.invariant.0 (piece-none _ _ c.before.loop-i.i c.loop-i-test.false)
 
-pub all-one-spec : {M : Type 1} → statement M
-all-one-spec =
+pub all_one_spec : {M : Type 1} → statement M
+all_one_spec =
     tie.close
     (tie.spec
     invariant-loop

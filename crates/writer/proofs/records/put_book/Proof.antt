@@ -16,24 +16,24 @@ use borrow.Author.Rules.{rules}
 use Rattle.writer.proofs.records.put_book.Statement.{statement}
 use Rattle.writer.proofs.records.put_book.Tie as tie
 
-put-device-requires : tie.Need-put-device-requires
+put-device-requires : tie.Need-put_device-requires
 put-device-requires c κs = search rules
 
-put-weights-requires : tie.Need-put-weights-requires
+put-weights-requires : tie.Need-put_weights-first-requires
 put-weights-requires c κs = search rules
 
-put-moves-requires : tie.Need-put-moves-requires
+put-moves-requires : tie.Need-put_moves-p-requires
 put-moves-requires c κs =
     let a = c.before.before.before.before.before.before.before.before.before.before.before.before.before.args in
     omega (arith, cells_below a.n a.m (omega arith))
 
-put-items-requires : tie.Need-put-items-requires
+put-items-requires : tie.Need-put_items-requires
 put-items-requires c κs =
     let start = c.before.before.before.before.before.before.before.before.before.before.before.before.before.before.before.before.before in
     let k = cells_below start.args.n start.args.m (omega arith) in
     (omega arith, omega arith, omega arith, start.requires.3)
 
-same_length : tie.Need-same-length
+same_length : tie.Need-shape_of-out
 same_length c = search rules
 
 returns : tie.Need-returns
@@ -48,22 +48,22 @@ returns c =
     let W = framed (weights_recs (piece a.m l.weights 0)) in
     let M = moves_bytes (a.n * a.m) l.table 0 a.m in
     let I = items_bytes a.c l.slots 0 in
-    let q = weights.put-weights.result in
-    let p = moves.put-moves.result in
-    let eq : q ≡ 6 + length W = weights.put-weights.ensures.1.0 in
-    let ep : p ≡ q + length M = moves.put-moves.ensures.1.0 in
+    let q = weights.put_weights-first.result in
+    let p = moves.put_moves-p.result in
+    let eq : q ≡ 6 + length W = weights.put_weights-first.ensures.1.0 in
+    let ep : p ≡ q + length M = moves.put_moves-p.ensures.1.0 in
     let ld : length D ≡ 6 = length-frame (device_rec a.n a.m) in
     let b = bytes_of_book a.n a.m a.c l in (
-      (then (then (then (first a.out.now 0 D device.put-device.ensures)
-          6 W (omega arith) weights.put-weights.ensures.0)
-          q M (omega (arith, length-append D W)) moves.put-moves.ensures.0)
-          p I (omega (arith, length-append (D ++ W) M, length-append D W)) items.put-items.ensures.0).is
+      (then (then (then (first a.out.now 0 D device.put_device.ensures)
+          6 W (omega arith) weights.put_weights-first.ensures.0)
+          q M (omega (arith, length-append D W)) moves.put_moves-p.ensures.0)
+          p I (omega (arith, length-append (D ++ W) M, length-append D W)) items.put_items.ensures.0).is
           ∙ ap (sets a.out.now 0) b,
-      omega (arith, items.put-items.ensures.1, ap length b, length-append (D ++ W ++ M) I, length-append (D ++ W) M, length-append D W),
+      omega (arith, items.put_items.ensures.1, ap length b, length-append (D ++ W ++ M) I, length-append (D ++ W) M, length-append D W),
     )
 
-pub put-book-spec : {M : Type 1} → statement M
-put-book-spec =
+pub put_book_spec : {M : Type 1} → statement M
+put_book_spec =
     tie.close
     (tie.spec
     put-device-requires

@@ -12,42 +12,42 @@ use Rattle.writer.proofs.Rows.{row-none, row-some}
 use Rattle.writer.proofs.records.put_entry.Statement.{statement}
 use Rattle.writer.proofs.records.put_entry.Tie as tie
 
-returns : tie.Need-returns
+returns : tie.Need-returns-then-mask-eq0
 returns c =
-    let e = row-none c.before.before.args.mask c.before.before.args.state c.before.before.args.command c.if1.true in
+    let e = row-none c.before.before.args.mask c.before.before.args.state c.before.before.args.command c.if-mask-eq0.true in
     (rw (← e), (rw (← e) (omega arith), omega arith))
 
-add-put-move : tie.Need-overflow-add-put-move
+add-put-move : tie.Need-overflow_add-at
 add-put-move c = search rules
 
-sub-put-move : tie.Need-overflow-sub-put-move
+sub-put-move : tie.Need-slice_bounds-put_move-count
 sub-put-move c = search rules
 
-part-put-move-start : tie.Need-slice-bounds-put-move-start
+part-put-move-start : tie.Need-slice_bounds-put_move-start
 part-put-move-start c = search rules
 
-part-put-move-end : tie.Need-slice-bounds-put-move-end
+part-put-move-end : tie.Need-slice_bounds-put_move-end
 part-put-move-end c = search rules
 
-put-move-requires : tie.Need-put-move-requires
+put-move-requires : tie.Need-put_move-requires
 put-move-requires c κs = search rules
 
-add-result : tie.Need-overflow-add-result
+add-result : tie.Need-overflow_add-result
 add-result c = search rules
 
-same_length : tie.Need-same-length
+same_length : tie.Need-shape_of-d
 same_length c = search rules
 
-returns-2 : tie.Need-returns-2
+returns-2 : tie.Need-returns
 returns-2 c =
     let a = c.before.before.before.before.before.before.args in
-    let e = row-some a.mask a.state a.command c.before.before.before.before.if1.false in
+    let e = row-some a.mask a.state a.command c.before.before.before.before.if-mask-eq0.false in
     let size = length-move a.state a.command a.mask in
-    let put = sets_part a.d.now _ a.at (a.at + 14 - a.at) (frame (move_rec (move a.state a.command a.mask))) (omega arith) (omega (arith, size)) c.before.before.put-move.ensures in
+    let put = sets_part a.d.now _ a.at (a.at + 14 - a.at) (frame (move_rec (move a.state a.command a.mask))) (omega arith) (omega (arith, size)) c.before.before.put_move.ensures in
     (put ∙ ap (sets a.d.now a.at) e, (rw (← e) (omega (arith, size)), omega arith))
 
-pub put-entry-spec : {M : Type 1} → statement M
-put-entry-spec =
+pub put_entry_spec : {M : Type 1} → statement M
+put_entry_spec =
     tie.close
     (tie.spec
     returns

@@ -12,58 +12,58 @@ use Rattle.writer.proofs.Stores.{length_head, two_parts, parts_size, item_record
 use Rattle.writer.proofs.records.put_item.Statement.{statement}
 use Rattle.writer.proofs.records.put_item.Tie as tie
 
-k-requires : tie.Need-k-requires
+k-requires : tie.Need-k-k-requires
 k-requires c κs = search rules
 
-r-requires : tie.Need-r-requires
+r-requires : tie.Need-r-r-requires
 r-requires c κs = search rules
 
-returns : tie.Need-returns
-returns c = absurd (omega (arith, c.before.before.k.ensures.0))
+returns : tie.Need-returns-then-k-gt8
+returns c = absurd (omega (arith, c.before.before.k-k.ensures.0))
 
-returns-2 : tie.Need-returns-2
-returns-2 c = absurd (omega (arith, c.before.before.r.ensures.0))
+returns-2 : tie.Need-returns-then-r-gt8
+returns-2 c = absurd (omega (arith, c.before.before.r-r.ensures.0))
 
-add_body : tie.Need-overflow-add-body
+add_body : tie.Need-overflow_add-body
 add_body c = search rules
 
-sub-put-head : tie.Need-overflow-sub-put-head
+sub-put-head : tie.Need-slice_bounds-put_head-count
 sub-put-head c = search rules
 
-part-put-head-start : tie.Need-slice-bounds-put-head-start
+part-put-head-start : tie.Need-slice_bounds-put_head-start
 part-put-head-start c = search rules
 
-part-put-head-end : tie.Need-slice-bounds-put-head-end
+part-put-head-end : tie.Need-slice_bounds-put_head-end
 part-put-head-end c = search rules
 
-put-head-requires : tie.Need-put-head-requires
+put-head-requires : tie.Need-put_head-requires
 put-head-requires c κs = search rules
 
-add-end : tie.Need-overflow-add-end
+add-end : tie.Need-overflow_add-end
 add-end c = search rules
 
-add-end-2 : tie.Need-overflow-add-end-2
+add-end-2 : tie.Need-overflow_add-end-2
 add-end-2 c = search rules
 
-add-end-3 : tie.Need-overflow-add-end-3
+add-end-3 : tie.Need-overflow_add-end-3
 add-end-3 c = search rules
 
-sub-put-parts : tie.Need-overflow-sub-put-parts
+sub-put-parts : tie.Need-slice_bounds-put_parts-count
 sub-put-parts c = search rules
 
-part-put-parts-start : tie.Need-slice-bounds-put-parts-start
+part-put-parts-start : tie.Need-slice_bounds-put_parts-start
 part-put-parts-start c = search rules
 
-part-put-parts-end : tie.Need-slice-bounds-put-parts-end
+part-put-parts-end : tie.Need-slice_bounds-put_parts-end
 part-put-parts-end c = search rules
 
-put-parts-requires : tie.Need-put-parts-requires
+put-parts-requires : tie.Need-put_parts-requires
 put-parts-requires c κs = search rules
 
-same_length : tie.Need-same-length
+same_length : tie.Need-shape_of-d
 same_length c = search rules
 
-returns-3 : tie.Need-returns-3
+returns-3 : tie.Need-returns
 returns-3 c =
     let parts = c.before.before in
     let head = parts.before.before.before.before in
@@ -72,20 +72,20 @@ returns-3 c =
     let start = forward.before.before.before in
     let a = start.args in
     let x = item_at a.s.now a.a in
-    let k = forward.k.result in
-    let r = reverse.r.result in
-    let ek : k ≡ length x.forward = forward.k.ensures.0 in
-    let er : r ≡ length x.reverse = reverse.r.ensures.0 in
+    let k = forward.k-k.result in
+    let r = reverse.r-r.result in
+    let ek : k ≡ length x.forward = forward.k-k.ensures.0 in
+    let er : r ≡ length x.reverse = reverse.r-r.ensures.0 in
     let size = item-size x k r ek er in
-    let stored = parts.put-parts.ensures (record { room = start.requires.0; forward = ek; reverse = er; few = omega arith; few_reverse = omega arith }) in (
+    let stored = parts.put_parts.ensures (record { room = start.requires.0; forward = ek; reverse = er; few = omega arith; few_reverse = omega arith }) in (
       two_parts a.d.now _ _ a.at (a.at + 6 - a.at) (a.at + 6) (a.at + 6 + 16 + k + r - (a.at + 6)) (item_head k r) (parts_of x) (omega arith)
-          (omega arith) (omega (arith, length_head k r)) (omega (arith, parts_size x k r ek er)) head.put-head.ensures stored
+          (omega arith) (omega (arith, length_head k r)) (omega (arith, parts_size x k r ek er)) head.put_head.ensures stored
           ∙ ap (sets a.d.now a.at) (item_record x k r ek er (omega arith) (omega arith)),
       (omega (arith, size), omega arith),
     )
 
-pub put-item-spec : {M : Type 1} → statement M
-put-item-spec =
+pub put_item_spec : {M : Type 1} → statement M
+put_item_spec =
     tie.close
     (tie.spec
     k-requires

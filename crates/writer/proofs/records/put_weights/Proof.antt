@@ -22,37 +22,37 @@ use Rattle.octets.proofs.put_le.Reads as put-le-reads
 use Rattle.writer.proofs.records.all_one.Reads as all-one-reads
 use Rattle.writer.proofs.records.put_each.Reads as put-each-reads
 
-all-one-requires : tie.Need-all-one-requires
+all-one-requires : tie.Need-all_one-requires
 all-one-requires c κs = search rules
 
-returns : tie.Need-returns
+returns : tie.Need-returns-then-all_one
 returns c =
     let a = c.before.before.before.before.args in
-    let none = no_record (piece a.m a.w.now 0) (sym c.before.all_one.ensures ∙ c.if1.true) in
+    let none = no_record (piece a.m a.w.now 0) (sym c.before.all_one.ensures ∙ c.if-all_one.true) in
     (sym (ap (sets a.d.now 6) none), (omega (arith, ap length none), omega arith))
 
-mul-put-le : tie.Need-overflow-mul-put-le
+mul-put-le : tie.Need-overflow_mul-m
 mul-put-le c = search rules
 
-put-le-requires : tie.Need-put-le-requires
+put-le-requires : tie.Need-put_le-requires
 put-le-requires c κs = search rules
 
-put-le-requires-2 : tie.Need-put-le-requires-2
+put-le-requires-2 : tie.Need-put_le-requires-2
 put-le-requires-2 c κs = search rules
 
-put-each-requires : tie.Need-put-each-requires
+put-each-requires : tie.Need-put_each-requires
 put-each-requires c κs = search rules
 
-mul-result : tie.Need-overflow-mul-result
+mul-result : tie.Need-overflow_mul-result
 mul-result c = search rules
 
-add-result : tie.Need-overflow-add-result
+add-result : tie.Need-overflow_add-result
 add-result c = search rules
 
-same_length : tie.Need-same-length
+same_length : tie.Need-shape_of-d
 same_length c = search rules
 
-returns-2 : tie.Need-returns-2
+returns-2 : tie.Need-returns
 returns-2 c =
     let each = c.before.before in
     let five = each.before.before.before.before in
@@ -62,19 +62,19 @@ returns-2 c =
     let a = judged.before.before.before.args in
     let ws = piece a.m a.w.now 0 in
     let size : length ws ≡ a.m = length-piece a.m a.w.now 0 in
-    let one = one_record ws (sym judged.all_one.ensures ∙ tested.if1.false) in
+    let one = one_record ws (sym judged.all_one.ensures ∙ tested.if-all_one.false) in
     let h = bytes_le 2 (2 * a.m) in
     let k = bytes_le 2 5 in
     let l = length-bytes_le 2 (2 * a.m) in (
-      (then (then (first a.d.now 6 h head.put-le.ensures)
-          8 k (omega arith) five.put-le2.ensures)
-          10 (two_bytes ws) (omega (arith, length-append h k, length-bytes_le 2 5)) each.put-each.ensures).is
+      (then (then (first a.d.now 6 h head.put_le.ensures)
+          8 k (omega arith) five.put_le-2.ensures)
+          10 (two_bytes ws) (omega (arith, length-append h k, length-bytes_le 2 5)) each.put_each.ensures).is
           ∙ ap (sets a.d.now 6) (ap (λ (n : ℕ). bytes_le 2 (2 * n) ++ k ++ two_bytes ws) (sym size) ∙ weights_record ws ∙ sym one),
       (omega (arith, ap length one, length-frame (weights_rec ws), weights_length ws), omega arith),
     )
 
-pub put-weights-spec : {M : Type 1} → statement M
-put-weights-spec =
+pub put_weights_spec : {M : Type 1} → statement M
+put_weights_spec =
     tie.close
     (tie.spec
     all-one-requires

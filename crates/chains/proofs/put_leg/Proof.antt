@@ -7,22 +7,22 @@ use Rattle.chains.proofs.put_leg.Reads as reads
 use Rattle.chains.proofs.put_leg.Lts as lts
 use Rattle.octets.proofs.put_le.Reads as put-le-reads
 
-put-le-requires : tie.Need-put-le-requires
+put-le-requires : tie.Need-put_le-requires
 put-le-requires c κs = search rules
 
-add-put-le : tie.Need-overflow-add-put-le
+add-put-le : tie.Need-overflow_add-at
 add-put-le c = search rules
 
-put-le-requires-2 : tie.Need-put-le-requires-2
+put-le-requires-2 : tie.Need-put_le-requires-2
 put-le-requires-2 c κs = search rules
 
-add-put-le-2 : tie.Need-overflow-add-put-le-2
+add-put-le-2 : tie.Need-overflow_add-at-2
 add-put-le-2 c = search rules
 
-put-le-requires-3 : tie.Need-put-le-requires-3
+put-le-requires-3 : tie.Need-put_le-requires-3
 put-le-requires-3 c κs = search rules
 
-same_length : tie.Need-same-length
+same_length : tie.Need-shape_of-legs
 same_length c = search rules
 
 returns : tie.Need-returns
@@ -32,10 +32,10 @@ returns c =
     let first = second.before.before.before.before in
     let s = first.before.before.before in
     leg-stored s.args.legs.now s.args.at s.args.number s.args.upper s.args.lower s.requires.1 s.requires.2 s.requires.3
-    first.put-le.ensures second.put-le2.ensures third.put-le3.ensures
+    first.put_le.ensures second.put_le-2.ensures third.put_le-3.ensures
 
-pub put-leg-spec : {M : Type 1} → statement M
-put-leg-spec =
+pub put_leg_spec : {M : Type 1} → statement M
+put_leg_spec =
     tie.close
     (tie.spec
     put-le-requires

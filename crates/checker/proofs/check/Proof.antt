@@ -24,12 +24,12 @@ same-length-3 : tie.Need-shape_of-weights-then-found-ne0
 same-length-3 c = search rules
 
 returns : tie.Need-returns-then-found-ne0
-returns c = passed_on (given c.before.before).read-found.ensures c.before.if-found-ne0.true c.with_units.ensures
+returns c = passed_on (given c.before.before).read-found.ensures c.if-found-ne0.true c.with_units.ensures
 
 judge-items-requires : tie.Need-judge_items-requires
 judge-items-requires c κs =
-    let z = c.before.if-found-ne0.false in
-    asked (found (given c.before.before).read-found.ensures z) z
+    let z = c.if-found-ne0.false in
+    asked (found (given c.before).read-found.ensures z) z
 
 same-length-4 : tie.Need-shape_of-table
 same-length-4 c = search rules
@@ -41,7 +41,7 @@ same-length-6 : tie.Need-shape_of-weights
 same-length-6 c = search rules
 
 returns-2 : tie.Need-returns
-returns-2 c = judged (given c.before.before.before).read-found.ensures c.before.before.if-found-ne0.false c.judge_items.ensures
+returns-2 c = judged (given c.before.before).read-found.ensures c.if-found-ne0.false c.judge_items.ensures
 
 pub check_spec : {M : Type 1} → statement M
 check_spec =

@@ -11,24 +11,24 @@ with-units-requires : tie.Need-with_units-requires
 with-units-requires c κs = search rules
 
 returns : tie.Need-returns-then-found-ne0
-returns c = small-refused c.before.before.before.reading_of-found.ensures c.before.if-found-ne0.true c.with_units.ensures
+returns c = small-refused c.reading_of-found.ensures c.if-found-ne0.true c.with_units.ensures
 
 index-requires : tie.Need-index-requires
 index-requires c κs = search rules
 
 judge-items-requires : tie.Need-judge_items-requires
 judge-items-requires c κs =
-    let f = c.before.before.before.before.before in
-    asked f.before.before.reading_of-found.ensures f.if-found-ne0.false
+    let f = c in
+    asked f.reading_of-found.ensures f.if-found-ne0.false
 
 same_length : tie.Need-shape_of-scratch
 same_length c = search rules
 
 returns-2 : tie.Need-returns
 returns-2 c =
-    let i = c.before.before.before.before in
-    let f = i.before.before in
-    small-judged f.before.before.reading_of-found.ensures f.if-found-ne0.false i.index.ensures c.judge_items.ensures
+    let i = c in
+    let f = i in
+    small-judged f.reading_of-found.ensures f.if-found-ne0.false i.index.ensures c.judge_items.ensures
 
 pub check_small_spec : {M : Type 1} → statement M
 check_small_spec =

@@ -12,21 +12,11 @@ use Rattle.checker.proofs.TableChecks.{table-says}
 use Rattle.checker.proofs.check_table.Statement.{statement}
 use Rattle.checker.proofs.check_table.Tie as tie
 
--- ---- places: the table filled, the book found, the table long enough
-abbrev filled : tie.After-judge-items-arg → tie.After-fill_table
-filled c = c.before.before.before
-
-abbrev read : tie.After-fill_table → tie.Else-found-ne0
-read c = c.before.before
-
-abbrev long : tie.Else-found-ne0 → tie.After-reading_of-found
-long c = c.before.before
-
 returns : tie.Need-returns-then-table-lt-TABLE_LEN
 returns c =
-    let k = c.before.before in
+    let k = c in
     record {
-      bytes = each_of (λ x. x < 256) k.before.args.book.now 0 (λ i h. omega (arith, k.shared_slice_known-1.given i));
+      bytes = each_of (λ x. x < 256) k.args.book.now 0 (λ i h. omega (arith, k.shared_slice_known-1.given i));
       says = short c.if-table-lt-TABLE_LEN.true refl refl;
     }
 
@@ -35,29 +25,26 @@ reading-of-requires c κs = search rules
 
 returns-2 : tie.Need-returns-then-found-ne0
 returns-2 c =
-    let r = c.before.before in
+    let r = c in
     let q = r.reading_of-found.ensures in
-    table-says (refused_of q c.if-found-ne0.true refl) r.before.if-table-lt-TABLE_LEN.false (sym (when_faulty _ _ _ (fault_found q c.if-found-ne0.true).parsed))
+    table-says (refused_of q c.if-found-ne0.true refl) r.if-table-lt-TABLE_LEN.false (sym (when_faulty _ _ _ (fault_found q c.if-found-ne0.true).parsed))
 
 fill-table-requires : tie.Need-fill_table-requires
 fill-table-requires c κs = search rules
 
 judge-items-requires : tie.Need-judge_items-judged-requires
-judge-items-requires c κs = let e = read (filled c) in asked (long e).reading_of-found.ensures e.if-found-ne0.false
+judge-items-requires c κs = asked c.reading_of-found.ensures c.if-found-ne0.false
 
 same_length : tie.Need-shape_of-table
 same_length c = search rules
 
 returns-3 : tie.Need-returns
 returns-3 c =
-    let f = filled c.before in
-    let e = read f in
-    let r = long e in
-    let q = r.reading_of-found.ensures in
-    let b = book-found q e.if-found-ne0.false in
-    let t = f.fill_table.ensures.entries b.book b.allowed b.bytes in
-    let h = r.before.if-table-lt-TABLE_LEN.false in
-    table-says (judged_of q e.if-found-ne0.false (device-read q e.if-found-ne0.false _ h t) c.judge_items-judged.ensures) h (t ∙ sym (when_fine _ _ _ b.parsed))
+    let q = c.reading_of-found.ensures in
+    let b = book-found q c.if-found-ne0.false in
+    let t = c.fill_table.ensures.entries b.book b.allowed b.bytes in
+    let h = c.if-table-lt-TABLE_LEN.false in
+    table-says (judged_of q c.if-found-ne0.false (device-read q c.if-found-ne0.false _ h t) c.judge_items-judged.ensures) h (t ∙ sym (when_fine _ _ _ b.parsed))
 
 pub check_table_spec : {M : Type 1} → statement M
 check_table_spec = tie.close (tie.spec returns reading-of-requires returns-2 fill-table-requires judge-items-requires same_length returns-3)

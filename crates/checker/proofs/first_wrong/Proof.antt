@@ -72,20 +72,20 @@ module _ (c : tie.After-u64_at-reverse invariant-loop2 decreases-loop2 invariant
   begun = read.before.before.before.before.before.before
 
   abbrev book_of : List ℕ
-  book_of = begun.args.t1.now
+  book_of = begun.args.book.now
 
   abbrev n_of : ℕ
   n_of = begun.args.n
 
   -- the device that is lent
   abbrev device : Device
-  device = device_in begun.args.tabled book_of begun.args.t2.now n_of begun.args.m
+  device = device_in begun.args.tabled book_of begun.args.masks.now n_of begun.args.m
 
   few : n_of ≤ 64
   few = begun.requires.0
 
   abbrev at_of : ℕ
-  at_of = read.before.before.items.at
+  at_of = read.items.at
 
   -- the item that stands there
   abbrev item_of : Item
@@ -93,14 +93,14 @@ module _ (c : tie.After-u64_at-reverse invariant-loop2 decreases-loop2 invariant
 
   -- the units made before it
   abbrev made_of : ℕ
-  made_of = read.before.before.items.units
+  made_of = read.items.units
 
   -- where the walk is, in every book whose bytes these are
   abbrev walk : (b : Book) → AllowedBook b → bytes_of b ≡ book_of → Walking device book_of b at_of made_of
-  walk b a e = read.before.before.items.invariant.1 b a e
+  walk b a e = read.items.invariant.1 b a e
 
   there : (b : Book) (a : AllowedBook b) (e : bytes_of b ≡ book_of) → ItemStands book_of b (walk b a e).number at_of
-  there b a e = stands device book_of b a e at_of made_of (walk b a e) read.before.items-test.true
+  there b a e = stands device book_of b a e at_of made_of (walk b a e) read.items-test.true
 
   -- it is the book's
   is : (b : Book) (a : AllowedBook b) (e : bytes_of b ≡ book_of) → item_of ≡ item (items_of b) (walk b a e).number
@@ -128,11 +128,11 @@ module _ (c : tie.After-u64_at-reverse invariant-loop2 decreases-loop2 invariant
       (omega (arith, t.most), omega (arith, t.reverse_most))
 
   bytes : Bytes book_of
-  bytes = each_of (λ x. x < 256) book_of 0 (λ i h. omega (arith, read.before.before.before.before.before.shared_slice_known-1.given i))
+  bytes = each_of (λ x. x < 256) book_of 0 (λ i h. omega (arith, read.shared_slice_known-1.given i))
 
-  forward-is : bytes_le parts.k c.before.u64_at-forward.result ≡ item_of.forward
+  forward-is : bytes_le parts.k c.u64_at-forward.result ≡ item_of.forward
   forward-is =
-      ap (bytes_le parts.k) c.before.u64_at-forward.ensures
+      ap (bytes_le parts.k) c.u64_at-forward.ensures
       ∙ first-bytes parts.k 8 book_of parts.forward counts.0 bytes
       ∙ ap (λ (x : Item). x.forward) held
 
@@ -147,7 +147,7 @@ module _ (c : tie.After-u64_at-reverse invariant-loop2 decreases-loop2 invariant
   small p =
       let (b, a, e) = begun.requires.2 in
       let same : item_made device item_of ≡ _ = ap (item_made device) (is b a e) in
-      omega (arith, p.count, few_units device book_of b a e at_of made_of (walk b a e) read.before.items-test.true few)
+      omega (arith, p.count, few_units device book_of b a e at_of made_of (walk b a e) read.items-test.true few)
 
   -- a start that passes takes all of its units
   all_units : (units : ℕ) → units + (parts.k + parts.r) ≡ units + start_units item_of
@@ -171,7 +171,7 @@ module _ (c : tie.After-lowest-start invariant-loop2 decreases-loop2 invariant-l
   start = c.lowest-start.result
 
   some : rest ≡ 0 → ⊥
-  some = some_left c.before.before.is_empty.ensures c.before.loop-starts-test.true-raw
+  some = some_left c.is_empty.ensures c.loop-starts-test.true-raw
 
   low : start < n_of judged
   low = omega (arith, lowest-low (n_of judged) rest (few judged) loop.loop-starts.invariant.1 some, c.lowest-start.ensures)
@@ -184,13 +184,13 @@ abbrev at_start_lem : tie.After-within-ends invariant-loop2 decreases-loop2 inva
 at_start_lem c = c.before.before.before.before.before
 
 ended : (c : tie.After-within-ends invariant-loop2 decreases-loop2 invariant-loop decreases-loop invariant-items decreases-items) → let i = judged (at_start_lem c) in
-    c.within-ends.result.mask ≡ ends (device i) (item_of i).forward (item_of i).phi-phi (start (at_start_lem c))
+    c.within-ends.result.mask ≡ ends (device i) (item_of i).forward (item_of i).phi (start (at_start_lem c))
 ended c =
     let i = judged (at_start_lem c) in
-    let v = c.before.before.loop-j in
-    let done : (parts i).k - v.j ≡ 0 = omega (arith, c.before.loop-j-test.false) in
-    reach-all (device i) (start (at_start_lem c)) (item_of i).forward v.ends.mask _ ((parts i).k - v.j) v.rest (item_of i).phi-phi _ done v.invariant.1
-    (i.before.before.before.phi-phi.ensures ∙ ap (λ (x : Item). x.phi-phi) (held i)) (mask_of c.within-ends.ensures)
+    let v = c.loop-j in
+    let done : (parts i).k - v.j ≡ 0 = omega (arith, c.loop-j-test.false) in
+    reach-all (device i) (start (at_start_lem c)) (item_of i).forward v.ends.mask _ ((parts i).k - v.j) v.rest (item_of i).phi _ done v.invariant.1
+    (i.phi-phi.ensures ∙ ap (λ (x : Item). x.phi) (held i)) (mask_of c.within-ends.ensures)
 
 -- its reverse run
 abbrev run-from : tie.After-runs_on-back invariant-loop2 decreases-loop2 invariant-loop decreases-loop invariant-items decreases-items → tie.After-within-ends invariant-loop2 decreases-loop2 invariant-loop decreases-loop invariant-items decreases-items
@@ -232,11 +232,11 @@ below-requires c κs = search rules
 
 loop-holds : tie.Need-loop-starts-init invariant-loop2 decreases-loop2 invariant-loop decreases-loop invariant-items decreases-items
 loop-holds c =
-    let i = c.before.before in
-    let e = mask_of c.below-starts.ensures ∙ ap (λ (x : StateSet). x.mask % 2 ^ n_of i) c.before.of.ensures in (
-      (read i).before.before.items.invariant.0,
-      rw e (mod-lt i.before.before.psi-psi.result (pow_pos (n_of i))),
-      none_passed (device i) (item_of i) _ _ i.before.before.psi-psi.result (i.before.before.psi-psi.ensures ∙ ap (λ (x : Item). x.psi-psi) (held i)) e,
+    let i = c in
+    let e = mask_of c.below-starts.ensures ∙ ap (λ (x : StateSet). x.mask % 2 ^ n_of i.before.before) c.of.ensures in (
+      (read i.before.before).items.invariant.0,
+      rw e (mod-lt i.psi-psi.result (pow_pos (n_of i.before.before))),
+      none_passed (device i.before.before) (item_of i.before.before) _ _ i.psi-psi.result (i.psi-psi.ensures ∙ ap (λ (x : Item). x.psi) (held i.before.before)) e,
     )
 
 is-empty-requires : tie.Need-is_empty-requires invariant-loop2 decreases-loop2 invariant-loop decreases-loop invariant-items decreases-items
@@ -253,10 +253,10 @@ add-requires c κs = search rules
 
 loop2-holds : tie.Need-loop-j-init invariant-loop2 decreases-loop2 invariant-loop decreases-loop invariant-items decreases-items
 loop2-holds c =
-    let k = c.before.before in
-    let i = judged k in (
+    let k = c in
+    let i = judged k.before.before in (
       omega arith,
-      reach-start (device i) (start k) (item_of i).forward _ _ _ _ (omega (arith, low k, few i)) c.before.of-in-loop-starts.ensures c.add-ends.ensures
+      reach-start (device i) (start k.before.before) (item_of i).forward _ _ _ _ (omega (arith, low k.before.before, few i)) c.of-in-loop-starts.ensures c.add-ends.ensures
           (rw (sub-zero (parts i).k) (forward-is i)),
     )
 
@@ -271,13 +271,13 @@ loop2-less c = omega arith
 
 loop2-again : tie.Need-loop-j-preserved invariant-loop2 decreases-loop2 invariant-loop decreases-loop invariant-items decreases-items
 loop2-again c =
-    let v = c.before.before.loop-j in
-    let k = c.before.before.before.before.before in
-    let i = judged k in
-    let t = c.before.loop-j-test.true in
+    let v = c.loop-j in
+    let k = c in
+    let i = judged k.before.before.before.before.before in
+    let t = c.loop-j-test.true in
     let more : (parts i).k - v.j ≡ suc ((parts i).k - (v.j + 1)) = omega arith in (
       omega arith,
-      reach-next (device i) (start k) (item_of i).forward v.ends.mask _ _ _ v.rest (few i) (begun i).requires.1 more v.invariant.1 (mask_of c.after-ends.ensures),
+      reach-next (device i) (start k.before.before.before.before.before) (item_of i).forward v.ends.mask _ _ _ v.rest (few i) (begun i).requires.1 more v.invariant.1 (mask_of c.after-ends.ensures),
     )
 
 within-requires : tie.Need-within-ends-requires invariant-loop2 decreases-loop2 invariant-loop decreases-loop invariant-items decreases-items
@@ -301,9 +301,9 @@ add-units-3 c =
 
 sub-units : tie.Need-overflow_sub-units invariant-loop2 decreases-loop2 invariant-loop decreases-loop invariant-items decreases-items
 sub-units c =
-    let r = c.before.before.before.before in
-    let k = at_start_lem (run-from r) in
-    omega (arith, run-back r, back_few (device (judged k)) (run-from r).within-ends.result.mask (item_of (judged k)).reverse (start k), r_is (judged k))
+    let r = c in
+    let k = at_start_lem (run-from r.before.before.before.before) in
+    omega (arith, run-back r.before.before.before.before, back_few (device (judged k)) (run-from r.before.before.before.before).within-ends.result.mask (item_of (judged k)).reverse (start k), r_is (judged k))
 
 without-lowest-requires : tie.Need-without_lowest-starts-requires invariant-loop2 decreases-loop2 invariant-loop decreases-loop invariant-items decreases-items
 without-lowest-requires c κs = search rules
@@ -320,23 +320,23 @@ loop-less c = starts-fall (judged-at c.before.before) _ (mask_of c.without_lowes
 
 loop-again : tie.Need-loop-starts-preserved invariant-loop2 decreases-loop2 invariant-loop decreases-loop invariant-items decreases-items
 loop-again c =
-    let j = c.before.before in
-    let k = judged-at j in
+    let j = c in
+    let k = judged-at j.before.before in
     let i = judged k in
-    let r = j.before.before in
+    let r = j in
     let g = mask_of c.without_lowest-starts.ensures in
     let e = g ∙ ap (without (rest k)) (sym k.lowest-start.ensures) in
     let empty = j.is_empty-in-loop-starts.ensures in (
       (loop k).loop-starts.invariant.0,
       omega (arith, starts-fall k _ g, (loop k).loop-starts.invariant.1),
       ⊎_elim
-          (λ q. subst⁻¹ (Passed (device i) (item_of i) _ _ _ _) q.2
-          (start_back (device i) (item_of i) _ _ _ _ (passed k) (few i) (low k) _ _ (ended (run-from r)) (run-back r) _ _ _ e refl (all_units i _)
-          (sym empty ∙ not-true _ q.0.taken) q.1.left))
-          (λ q. subst⁻¹ (Passed (device i) (item_of i) _ _ _ _) q.1
-          (start_none (device i) (item_of i) _ _ _ _ (passed k) (few i) (low k) _ _ (ended (run-from r)) (run-back r) _ _ _ e refl (all_units i _)
-          (sym empty ∙ not-false _ q.0.left)))
-          c.before.if-not-is_empty.branch,
+          (λ q. subst⁻¹ (Passed (device i) (item_of i) _ _ _ _) q.used-is
+          (start_back (device i) (item_of i) _ _ _ _ (passed k) (few i) (low k) _ _ (ended (run-from r.before.before.before.before)) (run-back r.before.before.before.before) _ _ _ e refl (all_units i _)
+          (sym empty ∙ not-true _ q.if-not-is_empty.true-raw) q.if-back-ne0.false))
+          (λ q. subst⁻¹ (Passed (device i) (item_of i) _ _ _ _) q.used-is
+          (start_none (device i) (item_of i) _ _ _ _ (passed k) (few i) (low k) _ _ (ended (run-from r.before.before.before.before)) (run-back r.before.before.before.before) _ _ _ e refl (all_units i _)
+          (sym empty ∙ not-false _ q.if-not-is_empty.false-raw)))
+          c.if-not-is_empty.branch-raw,
     )
 
 -- all starts of the item passed, and some of them was used, or none
@@ -347,45 +347,45 @@ at_done c = item-of c.before.before
 abbrev Found : tie.After-u64_at-reverse invariant-loop2 decreases-loop2 invariant-loop decreases-loop invariant-items decreases-items → ℕ → Bool → Bool → Item → Type 0
 Found i units right used x = (reverses (device i) x ≡ right) × (effective (device i) x ≡ used) × (units ≡ made_of i + item_made (device i) x)
 
-starts-passed : (c : tie.After-loop-starts invariant-loop2 decreases-loop2 invariant-loop decreases-loop invariant-items decreases-items) → Found (at_done c) c.before.before.loop-starts.units true c.before.before.loop-starts.used (item_of (at_done c))
+starts-passed : (c : tie.After-loop-starts invariant-loop2 decreases-loop2 invariant-loop decreases-loop invariant-items decreases-items) → Found (at_done c) c.loop-starts.units true c.loop-starts.used (item_of (at_done c))
 starts-passed c =
-    let l = c.before.before.loop-starts in
+    let l = c.loop-starts in
     let i = at_done c in
     starts-done (device i) (item_of i) _ _ _ _ l.invariant.2
-    (none-low (n_of i) l.starts.mask (few i) (none_left c.before.is_empty.ensures c.loop-starts-test.false-raw))
+    (none-low (n_of i) l.starts.mask (few i) (none_left c.is_empty.ensures c.loop-starts-test.false-raw))
 
 items-less : tie.Need-items-smaller invariant-loop2 decreases-loop2 invariant-loop decreases-loop invariant-items decreases-items
-items-less c = let p = read (at_done c.before) in omega (arith, p.parts_at-item.ensures.past p.before.items-test.true)
+items-less c = let p = read (at_done c.before) in omega (arith, p.parts_at-item.ensures.past p.items-test.true)
 
 items-again : tie.Need-items-preserved invariant-loop2 decreases-loop2 invariant-loop decreases-loop invariant-items decreases-items
 items-again c =
     let i = at_done c.before in (
-      c.before.before.before.loop-starts.invariant.0,
+      c.loop-starts.invariant.0,
       λ b a e.
           let (r, u, m) = subst (Found i _ true _) (is i b a e) (starts-passed c.before) in
-          at_next _ _ b a e _ _ (walk i b a e) (read i).before.items-test.true _ ((read i).parts_at-item.ensures.next (there i b a e))
+          at_next _ _ b a e _ _ (walk i b a e) (read i).items-test.true _ ((read i).parts_at-item.ensures.next (there i b a e))
           (passes_both _ _ r (u ∙ not-false _ c.if-not-used.false-raw)) _ m,
     )
 
 returns : tie.Need-returns-after-items invariant-loop2 decreases-loop2 invariant-loop decreases-loop invariant-items decreases-items
 returns c =
     λ b a e q.
-    ap (λ (j : Judgement). judging j c.before.items.units) c.before.items.invariant.0
-    ∙ none-wrong _ _ b a e _ _ (c.before.items.invariant.1 b a e) q c.items-test.false
+    ap (λ (j : Judgement). judging j c.items.units) c.items.invariant.0
+    ∙ none-wrong _ _ b a e _ _ (c.items.invariant.1 b a e) q c.items-test.false
 
 returns-2 : tie.Need-returns-then-back-ne0 invariant-loop2 decreases-loop2 invariant-loop decreases-loop invariant-items decreases-items
 returns-2 c =
     λ b a e q.
-    let j = c.before.before in
-    let k = judged-at j in
+    let j = c in
+    let k = judged-at j.before.before in
     let i = judged k in
-    let r = j.before.before in
-    let there = sym j.is_empty-in-loop-starts.ensures ∙ not-true _ c.before.if-not-is_empty.true-raw in
+    let r = j in
+    let there = sym j.is_empty-in-loop-starts.ensures ∙ not-true _ c.if-not-is_empty.true-raw in
     let units = (loop k).loop-starts.units + start_units (item_of i) + 1 - r.runs_on-back.result in
     let (bad, m) =
     subst (λ x. (reverses (device i) x ≡ false) × (units ≡ made_of i + item_made (device i) x)) (is i b a e)
-    (start_fails (device i) (item_of i) _ _ _ _ (passed k) (few i) (low k) _ _ (ended (run-from r)) (run-back r) there c.if-back-ne0.true) in
-    found _ _ b a e _ _ (walk i b a e) q (read i).before.items-test.true NoReversePlan (not_reversed _ _ bad) _
+    (start_fails (device i) (item_of i) _ _ _ _ (passed k) (few i) (low k) _ _ (ended (run-from r.before.before.before.before)) (run-back r.before.before.before.before) there c.if-back-ne0.true) in
+    found _ _ b a e _ _ (walk i b a e) q (read i).items-test.true NoReversePlan (not_reversed _ _ bad) _
     (ap (λ (v : ℕ). v + 1 - r.runs_on-back.result) (all_units i (loop k).loop-starts.units) ∙ m)
 
 returns-3 : tie.Need-returns-then-not-used invariant-loop2 decreases-loop2 invariant-loop decreases-loop invariant-items decreases-items
@@ -393,7 +393,7 @@ returns-3 c =
     λ b a e q.
     let i = at_done c.before in
     let (r, u, m) = subst (Found i _ true _) (is i b a e) (starts-passed c.before) in
-    found _ _ b a e _ _ (walk i b a e) q (read i).before.items-test.true NotEffective (not_used _ _ r (u ∙ not-true _ c.if-not-used.true-raw)) _ m
+    found _ _ b a e _ _ (walk i b a e) q (read i).items-test.true NotEffective (not_used _ _ r (u ∙ not-true _ c.if-not-used.true-raw)) _ m
 
 pub first_wrong_spec : {M : Type 1} → statement M
 first_wrong_spec =

@@ -13,7 +13,7 @@ use Rattle.checker.proofs.judge_items.Statement.{statement}
 use Rattle.checker.proofs.judge_items.Tie as tie
 
 first-wrong-requires : tie.Need-first_wrong-judged-requires
-first-wrong-requires c κs = c.before.before.requires
+first-wrong-requires c κs = c.requires
 
 enum_told : tie.Need-enum_told-1
 enum_told c = search rules
@@ -39,20 +39,20 @@ answer found j = with_units (on_judgement j.found refusal found) j.units
 
 returns : tie.Need-returns-in-AllAccepted
 returns c b a e same =
-    let f = c.before.before.before in
-    let found = f.before.before.before.args.found in
+    let f = c in
+    let found = f.args.found in
     c.with_units.ensures
-    ∙ sym (ap (λ (x : Judgement). with_units (on_judgement x refusal found) f.first_wrong-judged.result.units) c.before.in-AllAccepted.is)
+    ∙ sym (ap (λ (x : Judgement). with_units (on_judgement x refusal found) f.first_wrong-judged.result.units) c.in-AllAccepted.is)
     ∙ ap (answer found) (f.first_wrong-judged.ensures b a e same)
 
 returns-2 : tie.Need-returns-in-Wrong
 returns-2 c b a e same =
-    let f = c.before.before.before.before.before.before in
-    let found = f.before.before.before.args.found in
+    let f = c in
+    let found = f.args.found in
     let units = f.first_wrong-judged.result.units in
     c.with_units-in-Wrong.ensures
-    ∙ ap (λ (q : Reading). with_units q units) (c.before.refused.ensures ∙ ap (λ (k : ℕ). refusal k c.before.before.before.before.in-Wrong.place) c.before.before.code_of.ensures)
-    ∙ sym (ap (λ (x : Judgement). with_units (on_judgement x refusal found) units) c.before.before.before.before.in-Wrong.is)
+    ∙ ap (λ (q : Reading). with_units q units) (c.refused.ensures ∙ ap (λ (k : ℕ). refusal k c.in-Wrong.place) c.code_of.ensures)
+    ∙ sym (ap (λ (x : Judgement). with_units (on_judgement x refusal found) units) c.in-Wrong.is)
     ∙ ap (answer found) (f.first_wrong-judged.ensures b a e same)
 
 pub judge_items_spec : {M : Type 1} → statement M

@@ -12,7 +12,7 @@ returns : tie.Need-returns-then-n-gt64
 returns c = returns_out _ _ _ _ (states_over _ _ c.if-n-gt64.true)
 
 returns-2 : tie.Need-returns-then-m-gt32
-returns-2 c = returns_out _ _ _ _ (commands_over _ _ c.before.if-n-gt64.false c.if-m-gt32.true)
+returns-2 c = returns_out _ _ _ _ (commands_over _ _ c.if-n-gt64.false c.if-m-gt32.true)
 
 runs-on-requires : tie.Need-runs_on-requires
 runs-on-requires c κs = (omega arith, omega arith)

@@ -3,9 +3,11 @@
 // A case is a byte that says how the table is lent; phi and psi, 8 bytes each; the book's length and the number of forward commands, two bytes each; the
 // book; the forward commands.
 #![tactic(auto)]
-use finder::Found;
 
-fn print_answer(r: Found, table: &[u64]) {
+use finder::Found;
+use std::io::{Print, Read};
+
+fn print_answer(rt: &impl Print, r: Found, table: &[u64]) {
     let row = [
         r.code,
         r.place,
@@ -14,19 +16,27 @@ fn print_answer(r: Found, table: &[u64]) {
         r.commands[1] as u64,
         r.commands[2] as u64,
     ];
-    vectors::print_numbers(&row, 6);
-    vectors::print_numbers(table, 16);
+    vectors::print_numbers(rt, &row, 6);
+    vectors::print_numbers(rt, table, 16);
 }
 
 // Finds with so much of the table as the case's kind names.
-fn lend(kind: u64, book: &[u8], forward: &[u8], phi: u64, psi: u64, table: &mut [u64]) {
+fn lend(
+    rt: &impl Print,
+    kind: u64,
+    book: &[u8],
+    forward: &[u8],
+    phi: u64,
+    psi: u64,
+    table: &mut [u64],
+) {
     let size = vectors::size(table.len(), kind, 1, 2);
     let r = finder::find(book, forward, phi, psi, &mut table[..size]);
-    print_answer(r, table);
+    print_answer(rt, r, table);
 }
 
 // The file's next case.
-fn next_case(file: i32) {
+fn next_case<R: Print, F: Read>(rt: &R, file: &mut Option<F>) {
     let mut head = [0u8; 19];
     let mut book = [0u8; 31179];
     let mut forward = [0u8; 302];
@@ -34,6 +44,7 @@ fn next_case(file: i32) {
     let sizes = vectors::next_case(file, &mut head, &mut book, &mut forward);
     vectors::pattern(&mut table);
     lend(
+        rt,
         octets::byte_at(&head, 0),
         &book[..sizes.book],
         &forward[..sizes.run],
@@ -43,10 +54,9 @@ fn next_case(file: i32) {
     );
 }
 
-fn main() {
-    let cases = vectors::open(b"finds.bin", 900);
+fn main(rt: HostRuntime) {
+    let mut cases = vectors::open(&rt, b"finds.bin", 900);
     for _ in 0..cases.count {
-        next_case(cases.file);
+        next_case(&rt, &mut cases.file);
     }
-    libc::close(cases.file);
 }

@@ -1,9 +1,11 @@
 // Holds every lookup and every entry of the constant tables to the rule worked out, which the program `tables` holds to a second program's masks.
 // For each device: how many entries agree, then the answers for what is no state or no command.
 #![tactic(auto)]
+
 ghost use Rattle.std.specs.Prelude.{◌≤◌, ◌<◌};
 
 use lookups::LookupResult;
+use std::io::Print;
 
 // Of device 0, the ridge repeater, else of the portable relay: the lookup, the table's entry, the rule worked out.
 fn looked_up(device: u64, state: u64, command: u64) -> LookupResult {
@@ -65,7 +67,7 @@ fn agrees(device: u64, m: u64, entry: u64) -> u64
     }
 }
 
-fn print_agreeing(device: u64, entries: u64, m: u64)
+fn print_agreeing(rt: &impl Print, device: u64, entries: u64, m: u64)
     requires { 0 < m }
 {
     let mut count = 0;
@@ -73,22 +75,22 @@ fn print_agreeing(device: u64, entries: u64, m: u64)
         count = count + agrees(device, m, entry);
     }
     let row = [count];
-    vectors::print_numbers(&row, 1);
+    vectors::print_numbers(rt, &row, 1);
 }
 
-fn print_answer(device: u64, state: u64, command: u64) {
+fn print_answer(rt: &impl Print, device: u64, state: u64, command: u64) {
     let r = looked_up(device, state, command);
     let row = [r.code, r.place, r.mask];
-    vectors::print_numbers(&row, 3);
+    vectors::print_numbers(rt, &row, 3);
 }
 
-fn main() {
-    print_agreeing(0, 1024, 16);
-    print_answer(0, 64, 0);
-    print_answer(0, 0, 16);
-    print_answer(0, 18446744073709551615, 18446744073709551615);
-    print_agreeing(1, 384, 12);
-    print_answer(1, 32, 0);
-    print_answer(1, 0, 12);
-    print_answer(1, 18446744073709551615, 18446744073709551615);
+fn main(rt: HostRuntime) {
+    print_agreeing(&rt, 0, 1024, 16);
+    print_answer(&rt, 0, 64, 0);
+    print_answer(&rt, 0, 0, 16);
+    print_answer(&rt, 0, 18446744073709551615, 18446744073709551615);
+    print_agreeing(&rt, 1, 384, 12);
+    print_answer(&rt, 1, 32, 0);
+    print_answer(&rt, 1, 0, 12);
+    print_answer(&rt, 1, 18446744073709551615, 18446744073709551615);
 }

@@ -2,21 +2,23 @@
 // numbers, the page's lines as they are, and the four bytes behind them.
 // A case is a byte that says how buffers are lent; the book's length and the run's, two bytes each; the book; the run.
 #![tactic(auto)]
-use libc::STDOUT_FILENO;
-use paper::Paged;
 
-fn print_answer(r: Paged, page: &[u8]) {
+use paper::Paged;
+use std::io::{Print, Read};
+
+fn print_answer(rt: &impl Print, r: Paged, page: &[u8]) {
     let a = r.assembly;
     let row = [a.code, a.place, a.commands, a.legs, a.sum, r.length];
-    vectors::print_numbers(&row, 6);
-    vectors::print_longs(&a.fewest, 33);
+    vectors::print_numbers(rt, &row, 6);
+    vectors::print_longs(rt, &a.fewest, 33);
     let length = r.length as usize;
-    io::write_all(STDOUT_FILENO, vectors::part(page, 0, length));
-    vectors::print_bytes(vectors::part(page, length, 4), 4);
+    vectors::print_text(rt, vectors::part(page, 0, length));
+    vectors::print_bytes(rt, vectors::part(page, length, 4), 4);
 }
 
 // Lays out with so much of each buffer as the case's kind names.
 fn lend(
+    rt: &impl Print,
     kind: u64,
     book: &[u8],
     run: &[u8],
@@ -43,11 +45,11 @@ fn lend(
         &mut legs[..legs_size],
         &mut page[..page_size],
     );
-    print_answer(r, vectors::part(page, 0, page_size));
+    print_answer(rt, r, vectors::part(page, 0, page_size));
 }
 
 // One case. The page holds 90 everywhere.
-fn run_case(kind: u64, book: &[u8], run: &[u8]) {
+fn run_case(rt: &impl Print, kind: u64, book: &[u8], run: &[u8]) {
     let mut table = [0u64; 2053];
     let mut slots = [0u8; 2181];
     let mut weights = [0u16; 37];
@@ -55,6 +57,7 @@ fn run_case(kind: u64, book: &[u8], run: &[u8]) {
     let mut legs = [0u8; 101];
     let mut page = [90u8; 1317];
     lend(
+        rt,
         kind,
         book,
         run,
@@ -68,22 +71,22 @@ fn run_case(kind: u64, book: &[u8], run: &[u8]) {
 }
 
 // The file's next case.
-fn next_case(file: i32) {
+fn next_case<R: Print, F: Read>(rt: &R, file: &mut Option<F>) {
     let mut head = [0u8; 3];
     let mut book = [0u8; 31179];
     let mut run = [0u8; 302];
     let sizes = vectors::next_case(file, &mut head, &mut book, &mut run);
     run_case(
+        rt,
         octets::byte_at(&head, 0),
         &book[..sizes.book],
         &run[..sizes.run],
     );
 }
 
-fn main() {
-    let cases = vectors::open(b"pages.bin", 700);
+fn main(rt: HostRuntime) {
+    let mut cases = vectors::open(&rt, b"pages.bin", 700);
     for _ in 0..cases.count {
-        next_case(cases.file);
+        next_case(&rt, &mut cases.file);
     }
-    libc::close(cases.file);
 }

@@ -1,5 +1,6 @@
 // The roll-back plan for the book book.bin and the run run.bin in the folder where it is started.
 #![tactic(auto)]
-fn main() {
-    program::print_in(b".");
+
+fn main(rt: HostRuntime) {
+    program::print_in(&rt, b".");
 }

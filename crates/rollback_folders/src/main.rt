@@ -22,29 +22,32 @@
 //   book_31180  a book of 31,176 bytes and the header of a 65th item: 2 at 31,176, since three of its four bytes are judged; with the fourth it
 //               would be 7
 #![tactic(auto)]
-use libc::STDOUT_FILENO;
 
-fn print_folder(folder: &[u8]) {
-    io::write_all(STDOUT_FILENO, folder);
-    io::write_all(STDOUT_FILENO, b"\n");
-    program::print_in(folder);
+use std::io::Print;
+use std::rt::Files;
+
+// What standard output does not take is let go.
+fn print_folder<R: Files + Print>(rt: &R, folder: &[u8]) {
+    let _ = rt.write_all(folder);
+    let _ = rt.write_all(b"\n");
+    program::print_in(rt, folder);
 }
 
-fn main() {
-    print_folder(b"q8");
-    print_folder(b"q9");
-    print_folder(b"q11");
-    print_folder(b"q2");
-    print_folder(b"q4");
-    print_folder(b"no_book");
-    print_folder(b"no_run");
-    print_folder(b"run_folder");
-    print_folder(b"plan_256");
-    print_folder(b"run_302");
-    print_folder(b"run_602");
-    print_folder(b"dear");
-    print_folder(b"even");
-    print_folder(b"ones");
-    print_folder(b"book_31179");
-    print_folder(b"book_31180");
+fn main(rt: HostRuntime) {
+    print_folder(&rt, b"q8");
+    print_folder(&rt, b"q9");
+    print_folder(&rt, b"q11");
+    print_folder(&rt, b"q2");
+    print_folder(&rt, b"q4");
+    print_folder(&rt, b"no_book");
+    print_folder(&rt, b"no_run");
+    print_folder(&rt, b"run_folder");
+    print_folder(&rt, b"plan_256");
+    print_folder(&rt, b"run_302");
+    print_folder(&rt, b"run_602");
+    print_folder(&rt, b"dear");
+    print_folder(&rt, b"even");
+    print_folder(&rt, b"ones");
+    print_folder(&rt, b"book_31179");
+    print_folder(&rt, b"book_31180");
 }

@@ -55,29 +55,27 @@ module _ (text : List ℕ) (k n : ℕ) (c : IsPrefixLen k text) (f : IsDigitCoun
 
     module _ (old : List ℕ) (at : ℕ) (mid : List ℕ) (q : mid ≡ sets old at (replicate pad space)) where
       -- what is put behind the spaces puts the whole
-      behind : (new : List ℕ) → new ≡ sets mid (at + pad) (decimal n) → new ≡ sets old at (right_aligned w n)
-      unfolding right_aligned
+      behind : (new : List ℕ) → new ≡ sets mid (at + pad) (decimal n) → new ≡ sets old at (replicate (w - length (decimal n)) space ++ decimal n)
       behind new g =
           g ∙ ap (λ (l : List ℕ). sets l (at + pad) (decimal n)) q
           ∙ sets_append old at (at + pad) (replicate pad space) (decimal n) (omega (arith, length-replicate {A = ℕ} pad space))
           ∙ ap (λ (l : List ℕ). sets old at (l ++ decimal n)) spaces_are
 
-      pub right_put : (new : List ℕ) → new ≡ sets mid (at + pad) (piece k (take k text) 0) → new ≡ sets old at (right_aligned w n)
+      pub right_put : (new : List ℕ) → new ≡ sets mid (at + pad) (piece k (take k text) 0)
+          → new ≡ sets old at (replicate (w - length (decimal n)) space ++ decimal n)
       right_put new g =
           let p : piece k (take k text) 0 ≡ decimal n = piece-take k (take k text) 0 (omega arith) ∙ take_all k (take k text) (omega arith) ∙ made in
           behind new (rw p at g)
 
       -- past the end there is nothing to put
-      pub right-past : length mid ≤ at + pad → mid ≡ sets old at (right_aligned w n)
+      pub right-past : length mid ≤ at + pad → mid ≡ sets old at (replicate (w - length (decimal n)) space ++ decimal n)
       right-past l = behind mid (sym (sets_past mid (at + pad) (decimal n) l))
 
 -- a number, and one byte
-pub field_put : (old mid new : List ℕ) (at k n b : ℕ) → b < 256 → mid ≡ sets old at (right_aligned 0 n) → k ≡ length (right_aligned 0 n)
+pub field_put : (old mid new : List ℕ) (at k n b : ℕ) → b < 256 → mid ≡ sets old at (decimal n) → k ≡ length (decimal n)
     → new ≡ sets mid (at + k) (bytes_le 1 b) → Written old at (field n b) new (at + k + 1)
-unfolding right_aligned
 field_put old mid new at k n b l e c g =
-    let none : 0 - length (decimal n) ≡ 0 = omega arith in
-    let w : Written old at (decimal n) mid (at + k) = record { row = rw none at e; end = ap (λ (x : ℕ). at + x) (rw none at c) } in
+    let w : Written old at (decimal n) mid (at + k) = record { row = e; end = ap (λ (x : ℕ). at + x) c } in
     then w (one_put mid (at + k) b new l g)
 
 -- ---- the commands of a plan

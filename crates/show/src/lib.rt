@@ -1,5 +1,6 @@
 // Numbers as text, and the text that the program prints, written into a lent row. What does not fit in the row is not stored, and is counted all the same.
 #![tactic(auto)]
+
 ghost use Rattle.std.specs.Prelude.{◌≡◌, [], ◌∷◌, ◌+◌, ◌-◌, ◌*◌, ◌^◌, ◌<◌, ◌≤◌, min, length};
 ghost use Rattle.std.proofs.lemmas.List.Edits.{sets};
 ghost use Rattle.octets.specs.Parts.{piece};

@@ -2,8 +2,10 @@
 // A case has 575 bytes: n, m and the count, 8 bytes each; a byte that says which buffer is one short; 32 weights, 2 bytes each; 48 entries, 8 bytes
 // each; 3 slots.
 #![tactic(auto)]
+
 ghost use Rattle.std.specs.Prelude.{◌≤◌};
 
+use std::io::{Print, Read};
 use writer::Writing;
 
 // The case's weights.
@@ -65,7 +67,7 @@ fn write_case(
 }
 
 // One case: code, place and length on a line; the output's bytes 0 to length + 3 on the next.
-fn run(case: &[u8]) {
+fn run(rt: &impl Print, case: &[u8]) {
     let mut table = [0u64; 2048];
     let mut slots = [0u8; 2176];
     let mut weights = [0u16; 32];
@@ -75,24 +77,23 @@ fn run(case: &[u8]) {
     octets::copy(102, case, 473, &mut slots, 0);
     let r = write_case(case, &table, &slots, &weights, &mut out);
     let row = [r.code, r.place, r.length];
-    vectors::print_numbers(&row, 3);
+    vectors::print_numbers(rt, &row, 3);
     let length = r.length;
     if length < 31175 {
-        vectors::print_bytes(&out, length as usize + 4);
+        vectors::print_bytes(rt, &out, length as usize + 4);
     }
 }
 
 // The file's next case.
-fn next_case(file: i32) {
+fn next_case<R: Print, F: Read>(rt: &R, file: &mut Option<F>) {
     let mut case = [0u8; 575];
-    io::read_full(file, &mut case);
-    run(&case);
+    vectors::read_full(file, &mut case);
+    run(rt, &case);
 }
 
-fn main() {
-    let cases = vectors::open(b"writes.bin", 500);
+fn main(rt: HostRuntime) {
+    let mut cases = vectors::open(&rt, b"writes.bin", 500);
     for _ in 0..cases.count {
-        next_case(cases.file);
+        next_case(&rt, &mut cases.file);
     }
-    libc::close(cases.file);
 }

@@ -12,89 +12,89 @@ use Rattle.assembly.proofs.assemble.Statement.{statement}
 use Rattle.assembly.proofs.assemble.Tie as tie
 
 -- ---- places: at entry, after checking, with the book accepted
-abbrev start : tie.After-slice-known5 → tie.Start
+abbrev start : tie.After-slice_known-5-1 → tie.Start
 start c = c.before.before.before.before.before.before.before
 
-abbrev entry : tie.After-check → tie.After-slice-known5
+abbrev entry : tie.After-check-found → tie.After-slice_known-5-1
 entry c = c.before.before.before.before.before.before
 
-abbrev checked : tie.After-struct-known → tie.After-check
+abbrev checked : tie.After-struct_known-1 → tie.After-check-found
 checked c = c.before.before.before.before.before.before.before
 
-abbrev accepted : tie.After-planned-arg4 → tie.Else3
-accepted c = c.before.before.before.before
+abbrev accepted : tie.After-planned-arg-2-1 → tie.Else-found-ne0
+accepted c = c.before.before
 
 -- ---- what holds there
-bytes_of_book : (c : tie.After-slice-known5) → Bytes (start c).args.book.now
-bytes_of_book c = each_of (λ x. x < 256) (start c).args.book.now 0 (λ i h. omega (arith, c.before.before.before.before.before.before.shared-slice-known.given i))
+bytes_of_book : (c : tie.After-slice_known-5-1) → Bytes (start c).args.book.now
+bytes_of_book c = each_of (λ x. x < 256) (start c).args.book.now 0 (λ i h. omega (arith, c.shared_slice_known-1.given i))
 
-bytes_of_run : (c : tie.After-slice-known5) → Bytes (start c).args.run.now
-bytes_of_run c = each_of (λ x. x < 256) (start c).args.run.now 0 (λ i h. omega (arith, c.before.before.before.before.before.shared-slice-known2.given i))
+bytes_of_run : (c : tie.After-slice_known-5-1) → Bytes (start c).args.run.now
+bytes_of_run c = each_of (λ x. x < 256) (start c).args.run.now 0 (λ i h. omega (arith, c.shared_slice_known-2-1.given i))
 
-long : (c : tie.After-check) → LongEnough (room_sizes in_bytes (lent_room (start (entry c)).args.plan.now (start (entry c)).args.legs.now))
-long c = (c.before.before.before.before.before.if1.false, (c.before.before.before.before.if2.false, tt))
+long : (c : tie.After-check-found) → LongEnough (room_sizes in_bytes (lent_room (start (entry c)).args.plan.now (start (entry c)).args.legs.now))
+long c = (c.if-plan-lt-PLAN_LEN.false, (c.if-legs-lt-LEGS_LEN.false, tt))
 
 refused-requires : tie.Need-refused-requires
 refused-requires c κs = search rules
 
-returns : tie.Need-returns
-returns c = ways.short-refused (bytes_of_book c.before.before) (λ h. omega (arith, h.0, c.before.if1.true)) c.refused.ensures
+returns : tie.Need-returns-then-plan-lt-PLAN_LEN
+returns c = ways.short-refused (bytes_of_book c.before.before) (λ h. omega (arith, h.0, c.if-plan-lt-PLAN_LEN.true)) c.refused.ensures
 
-refused-requires-2 : tie.Need-refused-requires-2
+refused-requires-2 : tie.Need-refused-requires-then-legs-lt-LEGS_LEN
 refused-requires-2 c κs = search rules
 
-returns-2 : tie.Need-returns-2
-returns-2 c = ways.short-refused (bytes_of_book c.before.before.before) (λ h. omega (arith, h.1.0, c.before.if2.true)) c.refused2.ensures
+returns-2 : tie.Need-returns-then-legs-lt-LEGS_LEN
+returns-2 c = ways.short-refused (bytes_of_book c.before.before.before) (λ h. omega (arith, h.1.0, c.if-legs-lt-LEGS_LEN.true)) c.refused-then-legs-lt-LEGS_LEN.ensures
 
-check-requires : tie.Need-check-requires
+check-requires : tie.Need-check-found-requires
 check-requires c κs = search rules
 
-refused-requires-3 : tie.Need-refused-requires-3
+refused-requires-3 : tie.Need-refused-requires-then-found-ne0
 refused-requires-3 c κs = search rules
 
-same_length : tie.Need-same-length
+same_length : tie.Need-shape_of-table-then-found-ne0
 same_length c = search rules
 
-same-length-2 : tie.Need-same-length-2
+same-length-2 : tie.Need-shape_of-slots-then-found-ne0
 same-length-2 c = search rules
 
-same-length-3 : tie.Need-same-length-3
+same-length-3 : tie.Need-shape_of-weights-then-found-ne0
 same-length-3 c = search rules
 
-returns-3 : tie.Need-returns-3
+returns-3 : tie.Need-returns-then-found-ne0
 returns-3 c =
     let k = checked c.before.before in
-    ways.lent-refused k.check.ensures (long k) (bytes_of_run (entry k)) c.before.if3.true c.refused3.ensures
+    ways.lent-refused k.check-found.ensures (long k) (bytes_of_run (entry k)) c.if-found-ne0.true c.refused-then-found-ne0.ensures
 
 planned-requires : tie.Need-planned-requires
 planned-requires c κs =
     let a = accepted c in
-    table_lends (checked a.before).check.ensures a.if3.left
+    table_lends (checked a.before).check-found.ensures a.if-found-ne0.false
 
-same-length-4 : tie.Need-same-length-4
+same-length-4 : tie.Need-shape_of-table
 same-length-4 c = search rules
 
-same-length-5 : tie.Need-same-length-5
+same-length-5 : tie.Need-shape_of-slots
 same-length-5 c = search rules
 
-same-length-6 : tie.Need-same-length-6
+same-length-6 : tie.Need-shape_of-weights
 same-length-6 c = search rules
 
-same-length-7 : tie.Need-same-length-7
+same-length-7 : tie.Need-shape_of-plan
 same-length-7 c = search rules
 
-same-length-8 : tie.Need-same-length-8
+same-length-8 : tie.Need-shape_of-legs
 same-length-8 c = search rules
 
-returns-4 : tie.Need-returns-4
+returns-4 : tie.Need-returns
 returns-4 c =
-    let p = c.before.before.before.before in
-    let a = accepted p.before in
+    let p = c in
+    let a = accepted p.before.before.before.before.before in
     let k = checked a.before in
-    ways.lent-planned k.check.ensures (long k) a.if3.left p.planned.ensures
+    ways.lent-planned k.check-found.ensures (long k) a.if-found-ne0.false p.planned.ensures
 
-pub assemble-spec : {M : Type 1} → statement M
-assemble-spec =
+pub assemble_spec : {M : Type 1} → statement M
+assemble_spec =
     tie.close
     (tie.spec
     refused-requires

@@ -29,36 +29,36 @@ use Rattle.runs.proofs.last_point.Reads as last-point-reads
 use Rattle.runs.proofs.run_fine.Reads as run-fine-reads
 
 -- ---- places: at entry, with the run fine, with some state possible, with the numbers known
-abbrev start : tie.After-run-fine → tie.Start
+abbrev start : tie.After-run_fine → tie.Start
 start c = c.before.before.before.before.before.before.before
 
-abbrev fine : tie.After-beliefs → tie.Else1
+abbrev fine : tie.After-beliefs → tie.Else-not-run_fine
 fine c = c.before.before
 
-abbrev possible : tie.After-last-point → tie.Else2
+abbrev possible : tie.After-last_point-i → tie.Else-sets-eq0
 possible c = c.before
 
-abbrev passed : tie.Else2 → tie.After-beliefs
+abbrev passed : tie.Else-sets-eq0 → tie.After-beliefs
 passed c = c.before.before
 
-abbrev placed : tie.After-points-of → tie.After-places
+abbrev placed : tie.After-points_of-points → tie.After-places-places
 placed c = c.before.before.before
 
-abbrev pointed : tie.After-points-of → tie.After-last-point
+abbrev pointed : tie.After-points_of-points → tie.After-last_point-i
 pointed c = (placed c).before
 
-abbrev numbered : tie.Else3 → tie.After-points-of
+abbrev numbered : tie.Else-sum → tie.After-points_of-points
 numbered c = c.before.before
 
-abbrev chain : tie.After-write-chain-arg4 → tie.Else3
-chain c = c.before.before.before.before.before.before
+abbrev chain : tie.After-write_chain-arg-4-1 → tie.Else-sum
+chain c = c.before.before.before.before.before
 
-abbrev walked : tie.After-t42 → tie.After-write-chain
+abbrev walked : tie.After-result-2-1 → tie.After-write_chain-counts
 walked c = c.before.before.before.before.before
 
 -- ---- what holds there
-bytes_of_run : (c : tie.After-run-fine) → Bytes (start c).args.run.now
-bytes_of_run c = each_of (λ x. x < 256) (start c).args.run.now 0 (λ i h. omega (arith, c.before.before.before.before.before.shared-slice-known2.given i))
+bytes_of_run : (c : tie.After-run_fine) → Bytes (start c).args.run.now
+bytes_of_run c = each_of (λ x. x < 256) (start c).args.run.now 0 (λ i h. omega (arith, c.shared_slice_known-2-1.given i))
 
 -- the device that is lent
 abbrev device : tie.Start → Device
@@ -68,119 +68,119 @@ device s = let a = s.args in device_in a.tabled a.book.now a.masks.now a.found.n
 abbrev Of : (Asked → Device → List ℕ → Checking → Type 0) → tie.Start → Type 0
 Of P s = let a = s.args in P (asked a.book.now a.run.now) (device s) a.weights.now a.found
 
-fine-run : (c : tie.Else1) → Of FineRun (start c.before)
+fine-run : (c : tie.Else-not-run_fine) → Of FineRun (start c.before)
 fine-run c =
     record {
       bytes_of_run = bytes_of_run c.before;
       lends = (start c.before).requires;
-      fine = not-true _ (sym c.before.run-fine.ensures ∙ not-false _ c.if1.false);
+      fine = not-true _ (sym c.run_fine.ensures ∙ not-false _ c.if-not-run_fine.false-raw);
     }
 
 -- the possible states
 believed : (c : tie.After-beliefs) → let a = (start (fine c).before).args in
-    Believed (device (start (fine c).before)) (run_of a.run.now) c.beliefs.new.1.1.1.1.1.1.0
+    Believed (device (start (fine c).before)) (run_of a.run.now) c.beliefs.new.sets
 believed c =
     let w = fine-run (fine c) in
     let (n, m, items) = ways.limits w.lends.checked w.lends.accepted in
     c.beliefs.ensures.believed n m (ways.low w) (omega arith)
 
-numbers-known : (c : tie.After-points-of)
-    → Of (NumbersKnown (passed (possible (pointed c))).beliefs.new.1.1.1.1.1.1.0 (pointed c).last_point_lem.result (placed c).places.result c.points-of.result.fewest
-    c.points-of.result.items)
+numbers-known : (c : tie.After-points_of-points)
+    → Of (NumbersKnown (passed (possible (pointed c))).beliefs.new.sets (pointed c).last_point-i.result (placed c).places-places.result c.points_of-points.result.fewest
+    c.points_of-points.result.items)
     (start (fine (passed (possible (pointed c)))).before)
 numbers-known c =
     let s = possible (pointed c) in
     let w = fine-run (fine (passed s)) in
     let (n, m, items) = ways.limits w.lends.checked w.lends.accepted in
-    let movable = ways.movable w.lends.checked w.lends.accepted (placed c).places.ensures in
-    let short = ways.short w.lends.checked w.lends.accepted (placed c).places.ensures in
+    let movable = ways.movable w.lends.checked w.lends.accepted (placed c).places-places.ensures in
+    let short = ways.short w.lends.checked w.lends.accepted (placed c).places-places.ensures in
     record {
       fine-run = w;
       believed = believed (passed s);
-      some = s.if2.left;
-      last_point_lem = (pointed c).last_point_lem.ensures.0;
-      placed = (placed c).places.ensures;
-      num = c.points-of.ensures.numbered items (omega (arith, ways.low w, (pointed c).last_point_lem.ensures.0)) movable short;
+      some = s.if-sets-eq0.false;
+      last_point_lem = (pointed c).last_point-i.ensures.0;
+      placed = (placed c).places-places.ensures;
+      num = c.points_of-points.ensures.numbered items (omega (arith, ways.low w, (pointed c).last_point-i.ensures.0)) movable short;
     }
 
-run-fine-requires : tie.Need-run-fine-requires
+run-fine-requires : tie.Need-run_fine-requires
 run-fine-requires c κs = search rules
 
 refused-requires : tie.Need-refused-requires
 refused-requires c κs = search rules
 
-returns : tie.Need-returns
+returns : tie.Need-returns-then-not-run_fine
 returns c =
-    let t = c.before.before in
-    let l = (start t).requires in
-    ways.run-refused l.checked l.accepted (bytes_of_run t) (not-false _ (sym t.run-fine.ensures ∙ not-true _ c.before.if1.true))
+    let t = c in
+    let l = (start t.before.before).requires in
+    ways.run-refused l.checked l.accepted (bytes_of_run t.before.before) (not-false _ (sym t.run_fine.ensures ∙ not-true _ c.if-not-run_fine.true-raw))
     c.refused.ensures
 
-slice-aggregate-beliefs : tie.Need-slice-aggregate-beliefs
+slice-aggregate-beliefs : tie.Need-slice_bounds-beliefs-end
 slice-aggregate-beliefs c = search rules
 
 beliefs-requires : tie.Need-beliefs-requires
 beliefs-requires c κs = search rules
 
-array-read-if2 : tie.Need-array-read-if2
+array-read-if2 : tie.Need-bounds-sets-0
 array-read-if2 c = search rules
 
-refused-requires-2 : tie.Need-refused-requires-2
+refused-requires-2 : tie.Need-refused-requires-then-sets-eq0
 refused-requires-2 c κs = search rules
 
-returns-2 : tie.Need-returns-2
+returns-2 : tie.Need-returns-then-sets-eq0
 returns-2 c =
-    let p = c.before.before.before in
-    ways.no_state (fine-run (fine p)) (believed p) c.before.if2.true c.refused2.ensures
+    let p = c in
+    ways.no_state (fine-run (fine p.before.before.before)) (believed p.before.before.before) c.if-sets-eq0.true c.refused-then-sets-eq0.ensures
 
-last-point-requires : tie.Need-last-point-requires
+last-point-requires : tie.Need-last_point-i-requires
 last-point-requires c κs = search rules
 
-places-requires : tie.Need-places-requires
+places-requires : tie.Need-places-places-requires
 places-requires c κs = search rules
 
-slice-aggregate-points-of : tie.Need-slice-aggregate-points-of
+slice-aggregate-points-of : tie.Need-slice_bounds-points_of-end
 slice-aggregate-points-of c = search rules
 
-points-of-requires : tie.Need-points-of-requires
+points-of-requires : tie.Need-points_of-points-requires
 points-of-requires c κs = search rules
 
-mul-sum : tie.Need-overflow-mul-sum
+mul-sum : tie.Need-offset_bounds-points-i
 mul-sum c = search rules
 
-element-copy-out-sum : tie.Need-element-copy-out-sum
+element-copy-out-sum : tie.Need-bounds-points-i
 element-copy-out-sum c =
     let i = pointed c in
-    omega (arith, ways.low (fine-run (fine (passed (possible i)))), i.last_point_lem.ensures.0)
+    omega (arith, ways.low (fine-run (fine (passed (possible i)))), i.last_point-i.ensures.0)
 
-returns-3 : tie.Need-returns-3
-returns-3 c = ways.no_number (numbers-known c.before.before.before) c.before.if3.true
+returns-3 : tie.Need-returns-then-sum
+returns-3 c = ways.no_number (numbers-known c.before.before.before) c.if-sum.true
 
-slice-aggregate-write-chain : tie.Need-slice-aggregate-write-chain
+slice-aggregate-write-chain : tie.Need-slice_bounds-write_chain-end
 slice-aggregate-write-chain c = search rules
 
-write-chain-requires : tie.Need-write-chain-requires
+write-chain-requires : tie.Need-write_chain-counts-requires
 write-chain-requires c κs = search rules
 
-cast-t22 : tie.Need-overflow-cast-t22
+cast-t22 : tie.Need-overflow_cast-result
 cast-t22 c = search rules
 
-same_length : tie.Need-same-length
+same_length : tie.Need-shape_of-plan
 same_length c = search rules
 
-same-length-2 : tie.Need-same-length-2
+same-length-2 : tie.Need-shape_of-legs
 same-length-2 c = search rules
 
-returns-4 : tie.Need-returns-4
+returns-4 : tie.Need-returns
 returns-4 c =
     let w = walked c in
     let e = chain w.before in
     let known = numbers-known (numbered e) in
     let a = (start (fine (passed (possible (pointed (numbered e))))).before).args in
-    ways.written known e.if3.left _ (w.write-chain.ensures.walked (ways.found known e.if3.left (lent_room a.plan.now a.legs.now)).walkable)
+    ways.written known e.if-sum.false _ (w.write_chain-counts.ensures.walked (ways.found known e.if-sum.false (lent_room a.plan.now a.legs.now)).walkable)
 
-pub planned-spec : {M : Type 1} → statement M
-planned-spec =
+pub planned_spec : {M : Type 1} → statement M
+planned_spec =
     tie.close
     (tie.spec
     run-fine-requires

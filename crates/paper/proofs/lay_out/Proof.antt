@@ -9,57 +9,57 @@ use Rattle.paper.proofs.lay_out.Statement.{statement}
 use Rattle.paper.proofs.lay_out.Tie as tie
 
 -- ---- places: the book at entry, assembling, and the test of the page
-abbrev entry : tie.After-refused → tie.After-shared-slice-known
+abbrev entry : tie.After-refused → tie.After-shared_slice_known-1
 entry c = c.before.before.before.before.before.before.before.before.before
 
-abbrev assembled : tie.After-put-lines-arg3 → tie.After-assemble
-assembled c = c.before.before.before.before.before.before.before.before.before.before.before.before.before
+abbrev assembled : tie.After-put_lines-arg-1 → tie.After-assemble-result
+assembled c = c.before.before.before.before.before.before.before.before.before.before.before
 
-abbrev tested : tie.After-assemble → tie.Else1
+abbrev tested : tie.After-assemble-result → tie.Else-page-lt-PAGE_LEN
 tested c = c.before.before.before.before.before.before
 
 refused-requires : tie.Need-refused-requires
 refused-requires c κs = search rules
 
-returns : tie.Need-returns
+returns : tie.Need-returns-then-page-lt-PAGE_LEN
 returns c =
     let k = entry c in
-    let a = k.before.args in
-    page_short (each_of (λ x. x < 256) a.book.now 0 (λ i h. omega (arith, k.shared-slice-known.given i))) c.before.if1.true c.refused.ensures
+    let a = k.args in
+    page_short (each_of (λ x. x < 256) a.book.now 0 (λ i h. omega (arith, k.shared_slice_known-1.given i))) c.if-page-lt-PAGE_LEN.true c.refused.ensures
 
-assemble-requires : tie.Need-assemble-requires
+assemble-requires : tie.Need-assemble-result-requires
 assemble-requires c κs = search rules
 
-put-lines-requires : tie.Need-put-lines-requires
+put-lines-requires : tie.Need-put_lines-length-requires
 put-lines-requires c κs =
     let m = assembled c in
-    (legs-few m.assemble.ensures, (tested m).if1.left)
+    (legs-few m.assemble-result.ensures, (tested m).if-page-lt-PAGE_LEN.false)
 
-same_length : tie.Need-same-length
+same_length : tie.Need-shape_of-table
 same_length c = search rules
 
-same-length-2 : tie.Need-same-length-2
+same-length-2 : tie.Need-shape_of-slots
 same-length-2 c = search rules
 
-same-length-3 : tie.Need-same-length-3
+same-length-3 : tie.Need-shape_of-weights
 same-length-3 c = search rules
 
-same-length-4 : tie.Need-same-length-4
+same-length-4 : tie.Need-shape_of-plan
 same-length-4 c = search rules
 
-same-length-5 : tie.Need-same-length-5
+same-length-5 : tie.Need-shape_of-legs
 same-length-5 c = search rules
 
-same-length-6 : tie.Need-same-length-6
+same-length-6 : tie.Need-shape_of-page
 same-length-6 c = search rules
 
-returns-2 : tie.Need-returns-2
+returns-2 : tie.Need-returns
 returns-2 c =
     let m = assembled c.before.before.before in
-    page_long (tested m).if1.left m.assemble.ensures c.before.before.put-lines.ensures
+    page_long (tested m).if-page-lt-PAGE_LEN.false m.assemble-result.ensures c.put_lines-length.ensures
 
-pub lay-out-spec : {M : Type 1} → statement M
-lay-out-spec =
+pub lay_out_spec : {M : Type 1} → statement M
+lay_out_spec =
     tie.close
     (tie.spec
     refused-requires

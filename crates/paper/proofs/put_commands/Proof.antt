@@ -12,71 +12,71 @@ use Rattle.paper.proofs.Puts.{left, commands-start, commands-again, commands-don
 use Rattle.paper.proofs.put_commands.Statement.{statement}
 use Rattle.paper.proofs.put_commands.Tie as tie
 
-abbrev invariant-loop : tie.invariant-loop
+abbrev invariant-loop : tie.invariant-loop-x
 invariant-loop slots a page₀ at k next₀ x₀ page next x =
     Completes page₀ at (joined (columns (drop 5 widths) (reverse_in slots a))) page next (left (reverse_in slots a) x)
     × (next ≡ at + 3 * x) × (x ≤ k) × (k ≡ min (length (reverse_in slots a)) 8) × (length page ≡ length page₀)
 
-abbrev decreases-loop : tie.decreases-loop
+abbrev decreases-loop : tie.decreases-loop-x
 decreases-loop slots a page₀ at k next₀ x₀ page next x = k - x
 
 r-requires : tie.Need-r-requires invariant-loop decreases-loop
 r-requires c κs = search rules
 
-shown-requires : tie.Need-shown-requires invariant-loop decreases-loop
+shown-requires : tie.Need-shown-k-requires invariant-loop decreases-loop
 shown-requires c κs = search rules
 
-loop-holds : tie.Need-loop-init invariant-loop decreases-loop
-loop-holds c = (commands-start _ _ _, search rules, search rules, omega (arith, c.shown.ensures, c.before.r.ensures.0), search rules)
+loop-holds : tie.Need-loop-x-init invariant-loop decreases-loop
+loop-holds c = (commands-start _ _ _, search rules, search rules, omega (arith, c.shown-k.ensures, c.before.r.ensures.0), search rules)
 
-cast-reverse : tie.Need-overflow-cast-reverse invariant-loop decreases-loop
+cast-reverse : tie.Need-overflow_cast-x invariant-loop decreases-loop
 cast-reverse c = search rules
 
 reverse-requires : tie.Need-reverse-requires invariant-loop decreases-loop
 reverse-requires c κs = search rules
 
-put-number-requires : tie.Need-put-number-requires invariant-loop decreases-loop
+put-number-requires : tie.Need-put_number-next-requires invariant-loop decreases-loop
 put-number-requires c κs = (omega arith, omega arith, omega (arith, c.reverse.ensures.1))
 
-add-x : tie.Need-overflow-add-x invariant-loop decreases-loop
+add-x : tie.Need-overflow_add-x invariant-loop decreases-loop
 add-x c = search rules
 
-loop-less : tie.Need-loop-smaller invariant-loop decreases-loop
+loop-less : tie.Need-loop-x-smaller invariant-loop decreases-loop
 loop-less c = search rules
 
-loop-again : tie.Need-loop-preserved invariant-loop decreases-loop
+loop-again : tie.Need-loop-x-preserved invariant-loop decreases-loop
 loop-again c =
     let r = c.before.before.before in
     let t = r.before.before in
-    let i = t.before.loop.invariant in
+    let i = t.before.loop-x.invariant in
     let s = t.before.before.before.before.before.before.args in (
-      commands-again (reverse_in s.slots.now s.a) _ _ _ _ _ t.before.loop.x i.0 (r.reverse.ensures.0 (omega arith)) (omega arith) (omega arith) c.before.before.put-number.ensures.0,
+      commands-again (reverse_in s.slots.now s.a) _ _ _ _ _ t.before.loop-x.x i.0 (r.reverse.ensures.0 (omega arith)) (omega arith) (omega arith) c.before.before.put_number-next.ensures.0,
       search rules,
       search rules,
       i.3,
       search rules,
     )
 
-sub-put-spaces : tie.Need-overflow-sub-put-spaces invariant-loop decreases-loop
+sub-put-spaces : tie.Need-overflow_sub-k invariant-loop decreases-loop
 sub-put-spaces c = search rules
 
-mul-put-spaces : tie.Need-overflow-mul-put-spaces invariant-loop decreases-loop
+mul-put-spaces : tie.Need-overflow_mul-k invariant-loop decreases-loop
 mul-put-spaces c = search rules
 
-put-spaces-requires : tie.Need-put-spaces-requires invariant-loop decreases-loop
+put-spaces-requires : tie.Need-put_spaces-requires invariant-loop decreases-loop
 put-spaces-requires c κs = search rules
 
-same_length : tie.Need-same-length invariant-loop decreases-loop
+same_length : tie.Need-shape_of-page invariant-loop decreases-loop
 same_length c = search rules
 
 returns : tie.Need-returns invariant-loop decreases-loop
 returns c =
     let t = c.before.before.before.before in
-    let i = t.before.loop.invariant in
-    (commands-done _ _ _ _ _ _ _ i.0 _ i.3 i.2 t.loop-test.false c.before.before.put-spaces.ensures.0, omega arith)
+    let i = t.before.loop-x.invariant in
+    (commands-done _ _ _ _ _ _ _ i.0 _ i.3 i.2 t.loop-x-test.false c.before.before.put_spaces.ensures.0, omega arith)
 
-pub put-commands-spec : {M : Type 1} → statement M
-put-commands-spec =
+pub put_commands_spec : {M : Type 1} → statement M
+put_commands_spec =
     tie.close
     (tie.spec
     invariant-loop

@@ -6,58 +6,58 @@ use Rattle.paper.proofs.Puts.{line_read}
 use Rattle.paper.proofs.put_line.Statement.{statement}
 use Rattle.paper.proofs.put_line.Tie as tie
 
-mul-byte-at : tie.Need-overflow-mul-byte-at
+mul-byte-at : tie.Need-overflow_mul-i
 mul-byte-at c = search rules
 
-byte-at-requires : tie.Need-byte-at-requires
+byte-at-requires : tie.Need-byte_at-a-requires
 byte-at-requires c κs = search rules
 
-cast-a : tie.Need-overflow-cast-a
+cast-a : tie.Need-overflow_cast-a
 cast-a c = search rules
 
-mul-byte-at-2 : tie.Need-overflow-mul-byte-at-2
+mul-byte-at-2 : tie.Need-overflow_mul-i-2
 mul-byte-at-2 c = search rules
 
-add-byte-at : tie.Need-overflow-add-byte-at
+add-byte-at : tie.Need-overflow_add-i
 add-byte-at c = search rules
 
-byte-at-requires-2 : tie.Need-byte-at-requires-2
+byte-at-requires-2 : tie.Need-byte_at-upper-requires
 byte-at-requires-2 c κs = search rules
 
-mul-byte-at-3 : tie.Need-overflow-mul-byte-at-3
+mul-byte-at-3 : tie.Need-overflow_mul-i-3
 mul-byte-at-3 c = search rules
 
-add-byte-at-2 : tie.Need-overflow-add-byte-at-2
+add-byte-at-2 : tie.Need-overflow_add-i-2
 add-byte-at-2 c = search rules
 
-byte-at-requires-3 : tie.Need-byte-at-requires-3
+byte-at-requires-3 : tie.Need-byte_at-lower-requires
 byte-at-requires-3 c κs = search rules
 
-r-requires : tie.Need-r-requires
+r-requires : tie.Need-r-count-requires
 r-requires c κs = search rules
 
-add-put-numbers : tie.Need-overflow-add-put-numbers
+add-put-numbers : tie.Need-overflow_add-i-3
 add-put-numbers c = search rules
 
-cast-put-numbers : tie.Need-overflow-cast-put-numbers
+cast-put-numbers : tie.Need-overflow_cast-a-2
 cast-put-numbers c = search rules
 
-put-numbers-requires : tie.Need-put-numbers-requires
+put-numbers-requires : tie.Need-put_numbers-commands-requires
 put-numbers-requires c κs = search rules
 
-put-commands-requires : tie.Need-put-commands-requires
+put-commands-requires : tie.Need-put_commands-end-requires
 put-commands-requires c κs = search rules
 
-cast-put-le : tie.Need-overflow-cast-put-le
+cast-put-le : tie.Need-overflow_cast-put_le
 cast-put-le c = search rules
 
-put-le-requires : tie.Need-put-le-requires
+put-le-requires : tie.Need-put_le-requires
 put-le-requires c κs = search rules
 
-add-result : tie.Need-overflow-add-result
+add-result : tie.Need-overflow_add-result
 add-result c = search rules
 
-same_length : tie.Need-same-length
+same_length : tie.Need-shape_of-page
 same_length c = search rules
 
 returns : tie.Need-returns
@@ -69,13 +69,13 @@ returns c =
     let upper = lower.before in
     let a = upper.before in
     let s = a.before.before.before.before.args in (
-      line_read (reverse_in s.slots.now) s.legs.now s.i _ _ _ _ a.byte_at.ensures.0 upper.byte-at2.ensures.0
-          lower.byte-at3.ensures.0 r.r.ensures.0 n.put-numbers.ensures.0 k.put-commands.ensures.0 c.before.before.put-le.ensures,
-      omega (arith, n.put-numbers.ensures.1, k.put-commands.ensures.1),
+      line_read (reverse_in s.slots.now) s.legs.now s.i _ _ _ _ a.byte_at-a.ensures.0 upper.byte_at-upper.ensures.0
+          lower.byte_at-lower.ensures.0 r.r-count.ensures.0 n.put_numbers-commands.ensures.0 k.put_commands-end.ensures.0 c.before.before.put_le.ensures,
+      omega (arith, n.put_numbers-commands.ensures.1, k.put_commands-end.ensures.1),
     )
 
-pub put-line-spec : {M : Type 1} → statement M
-put-line-spec =
+pub put_line_spec : {M : Type 1} → statement M
+put_line_spec =
     tie.close
     (tie.spec
     mul-byte-at

@@ -10,46 +10,46 @@ use Rattle.paper.proofs.Puts.{lines, lines_start, lines-again, lines-done}
 use Rattle.paper.proofs.put_lines.Statement.{statement}
 use Rattle.paper.proofs.put_lines.Tie as tie
 
-abbrev invariant-loop : tie.invariant-loop
+abbrev invariant-loop : tie.invariant-loop-i
 invariant-loop slots legs count page₀ next₀ i₀ page next i =
     Completes page₀ 0 (page_in slots legs count) page next (lines (reverse_in slots) legs count i)
     × (next ≡ 41 * i) × (i ≤ count) × (length page ≡ length page₀)
 
-abbrev decreases-loop : tie.decreases-loop
+abbrev decreases-loop : tie.decreases-loop-i
 decreases-loop slots legs count page₀ next₀ i₀ page next i = count - i
 
-loop-holds : tie.Need-loop-init invariant-loop decreases-loop
+loop-holds : tie.Need-loop-i-init invariant-loop decreases-loop
 loop-holds c = (lines_start _ _ _ _, search rules, search rules, search rules)
 
-put-line-requires : tie.Need-put-line-requires invariant-loop decreases-loop
+put-line-requires : tie.Need-put_line-next-requires invariant-loop decreases-loop
 put-line-requires c κs = search rules
 
-add-i : tie.Need-overflow-add-i invariant-loop decreases-loop
+add-i : tie.Need-overflow_add-i invariant-loop decreases-loop
 add-i c = search rules
 
-loop-less : tie.Need-loop-smaller invariant-loop decreases-loop
+loop-less : tie.Need-loop-i-smaller invariant-loop decreases-loop
 loop-less c = search rules
 
-loop-again : tie.Need-loop-preserved invariant-loop decreases-loop
+loop-again : tie.Need-loop-i-preserved invariant-loop decreases-loop
 loop-again c =
     let t = c.before.before.before.before in
     let a = t.before.before.before.before.before.args in (
-      lines-again (reverse_in a.slots.now) _ _ _ _ _ _ _ t.before.loop.invariant.0 t.loop-test.true c.before.before.put-line.ensures.0,
+      lines-again (reverse_in a.slots.now) _ _ _ _ _ _ _ t.before.loop-i.invariant.0 t.loop-i-test.true c.before.before.put_line-next.ensures.0,
       search rules,
       search rules,
       search rules,
     )
 
-same_length : tie.Need-same-length invariant-loop decreases-loop
+same_length : tie.Need-shape_of-page invariant-loop decreases-loop
 same_length c = search rules
 
 returns : tie.Need-returns invariant-loop decreases-loop
 returns c =
     let a = c.before.before.before.before.before.args in
-    lines-done (reverse_in a.slots.now) _ _ _ _ _ _ _ c.before.loop.invariant.0 c.loop-test.false
+    lines-done (reverse_in a.slots.now) _ _ _ _ _ _ _ c.before.loop-i.invariant.0 c.loop-i-test.false
 
-pub put-lines-spec : {M : Type 1} → statement M
-put-lines-spec =
+pub put_lines_spec : {M : Type 1} → statement M
+put_lines_spec =
     tie.close
     (tie.spec
     invariant-loop

@@ -6,13 +6,13 @@ use Rattle.paper.proofs.Puts.{number_put}
 use Rattle.paper.proofs.put_number.Statement.{statement}
 use Rattle.paper.proofs.put_number.Tie as tie
 
-put-right-requires : tie.Need-put-right-requires
+put-right-requires : tie.Need-put_right-requires
 put-right-requires c κs = search rules
 
-add-result : tie.Need-overflow-add-result
+add-result : tie.Need-overflow_add-result
 add-result c = search rules
 
-same_length : tie.Need-same-length
+same_length : tie.Need-shape_of-page
 same_length c = search rules
 
 returns : tie.Need-returns
@@ -24,5 +24,5 @@ returns c =
       omega (arith, e.1.0, right-length s.args.width s.args.n s.requires.1 s.requires.2 (omega arith)),
     )
 
-pub put-number-spec : {M : Type 1} → statement M
-put-number-spec = tie.close (tie.spec put-right-requires add-result same_length returns)
+pub put_number_spec : {M : Type 1} → statement M
+put_number_spec = tie.close (tie.spec put-right-requires add-result same_length returns)

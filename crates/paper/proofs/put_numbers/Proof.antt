@@ -5,22 +5,22 @@ use borrow.Author.Rules.{rules}
 use Rattle.paper.proofs.put_numbers.Statement.{statement}
 use Rattle.paper.proofs.put_numbers.Tie as tie
 
-put-number-requires : tie.Need-put-number-requires
+put-number-requires : tie.Need-put_number-a-requires
 put-number-requires c κs = search rules
 
-put-number-requires-2 : tie.Need-put-number-requires-2
+put-number-requires-2 : tie.Need-put_number-b-requires
 put-number-requires-2 c κs = search rules
 
-put-number-requires-3 : tie.Need-put-number-requires-3
+put-number-requires-3 : tie.Need-put_number-c-requires
 put-number-requires-3 c κs = search rules
 
-put-number-requires-4 : tie.Need-put-number-requires-4
+put-number-requires-4 : tie.Need-put_number-d-requires
 put-number-requires-4 c κs = search rules
 
-put-number-requires-5 : tie.Need-put-number-requires-5
+put-number-requires-5 : tie.Need-put_number-requires
 put-number-requires-5 c κs = search rules
 
-same_length : tie.Need-same-length
+same_length : tie.Need-shape_of-page
 same_length c = search rules
 
 returns : tie.Need-returns
@@ -30,20 +30,20 @@ returns c =
     let p₂ = p₃.before.before.before.before in
     let p₁ = p₂.before.before.before.before in
     let a = p₁.before.before.before.args in (
-      numbers_put a.leg a.upper a.lower a.item a.count p₁.put-number.ensures.0 p₂.put-number2.ensures.0 p₃.put-number3.ensures.0
-          p₄.put-number4.ensures.0 c.before.before.put-number5.ensures.0,
+      numbers_put a.leg a.upper a.lower a.item a.count p₁.put_number-a.ensures.0 p₂.put_number-b.ensures.0 p₃.put_number-c.ensures.0
+          p₄.put_number-d.ensures.0 c.before.before.put_number.ensures.0,
       omega (
         arith,
-        p₁.put-number.ensures.1,
-        p₂.put-number2.ensures.1,
-        p₃.put-number3.ensures.1,
-        p₄.put-number4.ensures.1,
-        c.before.before.put-number5.ensures.1,
+        p₁.put_number-a.ensures.1,
+        p₂.put_number-b.ensures.1,
+        p₃.put_number-c.ensures.1,
+        p₄.put_number-d.ensures.1,
+        c.before.before.put_number.ensures.1,
       ),
     )
 
-pub put-numbers-spec : {M : Type 1} → statement M
-put-numbers-spec =
+pub put_numbers_spec : {M : Type 1} → statement M
+put_numbers_spec =
     tie.close
     (tie.spec
     put-number-requires

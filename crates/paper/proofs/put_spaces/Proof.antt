@@ -7,14 +7,14 @@ use Rattle.paper.proofs.put_spaces.Tie as tie
 fill-requires : tie.Need-fill-requires
 fill-requires c κs = search rules
 
-add-result : tie.Need-overflow-add-result
+add-result : tie.Need-overflow_add-result
 add-result c = search rules
 
-same_length : tie.Need-same-length
+same_length : tie.Need-shape_of-page
 same_length c = search rules
 
 returns : tie.Need-returns
 returns c = (spaces_put _ _ _ _ c.before.before.fill.ensures, search rules)
 
-pub put-spaces-spec : {M : Type 1} → statement M
-put-spaces-spec = tie.close (tie.spec fill-requires add-result same_length returns)
+pub put_spaces_spec : {M : Type 1} → statement M
+put_spaces_spec = tie.close (tie.spec fill-requires add-result same_length returns)

@@ -6,57 +6,57 @@ use Rattle.report.proofs.Exactly.{reported}
 use Rattle.report.proofs.report.Statement.{statement}
 use Rattle.report.proofs.report.Tie as tie
 
-add-at-most : tie.Need-overflow-add-at-most
+add-at-most : tie.Need-overflow_add-at_most
 add-at-most c = search rules
 
-at-most-requires : tie.Need-at-most-requires
+at-most-requires : tie.Need-at_most-book_size-requires
 at-most-requires c κs = search rules
 
-at-most-requires-2 : tie.Need-at-most-requires-2
+at-most-requires-2 : tie.Need-at_most-run_size-requires
 at-most-requires-2 c κs = search rules
 
-slice-aggregate-assemble : tie.Need-slice-aggregate-assemble
-slice-aggregate-assemble c = simp length-take (omega (arith, c.before.before.at_most.ensures))
+slice-aggregate-assemble : tie.Need-slice_bounds-assemble-end
+slice-aggregate-assemble c = simp length-take (omega (arith, c.at_most-book_size.ensures))
 
-slice-aggregate-assemble-2 : tie.Need-slice-aggregate-assemble-2
-slice-aggregate-assemble-2 c = simp length-take (omega (arith, c.before.before.at-most2.ensures))
+slice-aggregate-assemble-2 : tie.Need-slice_bounds-assemble-end-2
+slice-aggregate-assemble-2 c = simp length-take (omega (arith, c.at_most-run_size.ensures))
 
-slice-aggregate-assemble-3 : tie.Need-slice-aggregate-assemble-3
+slice-aggregate-assemble-3 : tie.Need-slice_bounds-assemble-end-3
 slice-aggregate-assemble-3 c = search rules
 
-slice-aggregate-assemble-4 : tie.Need-slice-aggregate-assemble-4
+slice-aggregate-assemble-4 : tie.Need-slice_bounds-assemble-end-4
 slice-aggregate-assemble-4 c = search rules
 
-slice-aggregate-assemble-5 : tie.Need-slice-aggregate-assemble-5
+slice-aggregate-assemble-5 : tie.Need-slice_bounds-assemble-end-5
 slice-aggregate-assemble-5 c = search rules
 
-slice-aggregate-assemble-6 : tie.Need-slice-aggregate-assemble-6
+slice-aggregate-assemble-6 : tie.Need-slice_bounds-assemble-end-6
 slice-aggregate-assemble-6 c = search rules
 
-slice-aggregate-assemble-7 : tie.Need-slice-aggregate-assemble-7
+slice-aggregate-assemble-7 : tie.Need-slice_bounds-assemble-end-7
 slice-aggregate-assemble-7 c = search rules
 
-assemble-requires : tie.Need-assemble-requires
+assemble-requires : tie.Need-assemble-r-requires
 assemble-requires c κs = search rules
 
-slice-aggregate-lines : tie.Need-slice-aggregate-lines
+slice-aggregate-lines : tie.Need-slice_bounds-lines-end
 slice-aggregate-lines c = search rules
 
 lines-requires : tie.Need-lines-requires
 lines-requires c κs = search rules
 
-same_length : tie.Need-same-length
+same_length : tie.Need-shape_of-out
 same_length c = search rules
 
 returns : tie.Need-returns
 returns c =
-    let l = c.before.before in
-    let a = l.before.before.before.before.before.before.before.before in
-    let m = a.before.before.before.before.before.before.before.before in
-    reported m.before.at_most.ensures m.at-most2.ensures a.assemble.ensures l.lines.ensures.0 l.lines.ensures.1.0 l.lines.ensures.1.1
+    let l = c in
+    let a = l in
+    let m = a in
+    reported m.at_most-book_size.ensures m.at_most-run_size.ensures a.assemble-r.ensures l.lines.ensures.0 l.lines.ensures.1.0 l.lines.ensures.1.1
 
-pub report-spec : {M : Type 1} → statement M
-report-spec =
+pub report_spec : {M : Type 1} → statement M
+report_spec =
     tie.close
     (tie.spec
     add-at-most

@@ -1,6 +1,6 @@
 #!/bin/sh
 # Makes the source files of the constant tables of what the program `tables` prints: make.sh [--check]
-# Needs target/bin/tables: rt check tables. With --check it writes nothing, and its status is 1 where a file would change.
+# Needs crates/tables/out/tables: (cd crates/tables && rt run). With --check it writes nothing, and its status is 1 where a file would change.
 set -eu
 cd "$(dirname "$0")/../.."
 case ${1:-} in
@@ -8,8 +8,8 @@ case ${1:-} in
 --check) check=1 ;;
 *) echo "usage: $0 [--check]" >&2; exit 2 ;;
 esac
-program=target/bin/tables
-[ -x $program ] || { echo "no $program: rt check tables builds it" >&2; exit 2; }
+program=crates/tables/out/tables
+[ -x $program ] || { echo "no $program: (cd crates/tables && rt run) builds it" >&2; exit 2; }
 work=$(mktemp -d)
 trap 'rm -rf "$work"' EXIT
 $program >"$work/lines"

@@ -1,5 +1,6 @@
 // 01's and 02's limits of a device, a weight, a move and an item, each judged by one function for reading, writing and every other call.
 #![tactic(auto)]
+
 ghost use Rattle.std.specs.Prelude.{◌≡◌};
 ghost use Rattle.base.specs.Masks.{clear_from};
 ghost use Rattle.book.specs.Limits.{device_fine, weight_fine, move_fine, move_with, counts_fine, all_below, fields_fine, item_with};

@@ -8,7 +8,7 @@ use Rattle.base.proofs.Lists.{same-written}
 use Rattle.base.proofs.Sizes.{long_after}
 use Rattle.reversal.specs.Runs.{Run, AllowedRun}
 use Rattle.reversal.specs.Answers.{Answer, Answers}
-use Rattle.reversal.proofs.Assembling.{answers_unique}
+use Rattle.reversal.proofs.OneAnswer.{answers_unique}
 use Rattle.book.specs.Book.{Book, device_of, items_for}
 use Rattle.book.specs.Lent.{Lent, sizes}
 use Rattle.book.proofs.Unique.{one-book}

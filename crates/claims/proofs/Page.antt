@@ -33,7 +33,8 @@ use Rattle.reversal.proofs.Effective.{not-both}
 use Rattle.reversal.proofs.Histories.{possible↔, percept-states}
 use Rattle.reversal.proofs.Fitting.{fits↔, fits_possible}
 use Rattle.reversal.proofs.EndToEnd.{chain-undoes, never-fits}
-use Rattle.reversal.proofs.Assembling.{cost-most, numbers-right, answer-right, answers_unique}
+use Rattle.reversal.proofs.Assembling.{cost-most, numbers-right, answer-right}
+use Rattle.reversal.proofs.OneAnswer.{answers_unique}
 use Rattle.reversal.proofs.Sizes.{worked_units}
 use Rattle.reversal.proofs.Cases.{twelve, weighted}
 use Rattle.states.proofs.StateSet.visit.Symbol as visit_routine_symbol

@@ -12,7 +12,6 @@ use lib.Seq.{get_or-set_same, get_or-set_other}
 use Rattle.base.specs.Sets.{In}
 use Rattle.base.specs.Tests.{pick, both}
 use Rattle.base.specs.Compare.{same}
-use Rattle.base.proofs.Picks.{less_yes}
 use Rattle.base.proofs.Compare.{same_on, same_off, on_same}
 use Rattle.base.proofs.Masks.{in_zero, one_in, in_or_not}
 use Rattle.base.proofs.Added.{none-zero}
@@ -28,7 +27,7 @@ use Rattle.book.proofs.Largest.{length-book}
 use Rattle.items.specs.Items.{MovesBegin}
 use Rattle.items.proofs.Walk.{past-move, state_at, command_at_lem, mask_at_lem, move-inside, no_move, none_left}
 use Rattle.moves.specs.Moves.{mask_at, moved_to, with_move, move_added}
-use Rattle.moves.proofs.Rows.{moved_in, moved_none, added_in, kept_in, in_added, place_kept, place_added, place_next}
+use Rattle.moves.proofs.Rows.{moved_in, moved_none, added_in, kept_in, in_added, place_kept, place_added, place_next, row-stored}
 
 -- ---- equal or not
 either : {P : Type 0} (x y : ℕ) → (x ≡ y → P) → ((x ≡ y → ⊥) → P) → P
@@ -115,13 +114,11 @@ module _ (s : List ℕ) (b : Book) (at : ℕ) (masks : List ℕ) (a : AllowedBoo
 
     -- the row of the move's state is changed, and no other
     stored : masks' ≡ set masks x.state row'
-    unfolding move_added
     stored =
         e'
-        ∙ rw (state_at s at x t r, command_at_lem s at x t r)
-        (sym
-        (less_yes _ _ masks x.command 32 (omega (arith, al.0.known_command, a.device.m_high))
-        (less_yes _ _ masks x.state 64 (omega (arith, al.0.known_state, a.device.n_high)) refl)))
+        ∙ sym
+        (row-stored s at masks x.state x.command row' (set masks x.state row') (sym (state_at s at x t r)) (sym (command_at_lem s at x t r))
+        (omega (arith, al.0.known_command, a.device.m_high)) (omega (arith, al.0.known_state, a.device.n_high)) refl refl)
 
     changed : get_or masks' x.state 0 ≡ row'
     changed = rw stored (get_or-set_same masks x.state row' 0 (omega (arith, a.device.n_high, al.0.known_state)))

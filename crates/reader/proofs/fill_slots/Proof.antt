@@ -22,12 +22,6 @@ decreases-loop book first slots₀ at₀ i₀ slots at i = length book - at
 loop-holds : tie.Need-loop-at-init invariant-loop decreases-loop
 loop-holds c = (omega arith, refl, λ b a e q. slotting _ b _ _ q)
 
-same_length : tie.Need-shape_of-slots-then-i-ge64 invariant-loop decreases-loop
-same_length c = search rules
-
-returns : tie.Need-returns-then-i-ge64 invariant-loop decreases-loop
-returns c = record { items = λ b a e q. absurd (omega (arith, a.few, (stands a e (c.before.before.loop-at.invariant.2 b a e q) c.before.loop-at-test.true).known)) }
-
 mul-q : tie.Need-overflow_mul-q invariant-loop decreases-loop
 mul-q c = search rules
 
@@ -116,3 +110,9 @@ fill_slots_spec =
     loop-again
     same-length-3
     returns-3)
+  where
+    same_length : tie.Need-shape_of-slots-then-i-ge64 invariant-loop decreases-loop
+    same_length c = search rules
+
+    returns : tie.Need-returns-then-i-ge64 invariant-loop decreases-loop
+    returns c = record { items = λ b a e q. absurd (omega (arith, a.few, (stands a e (c.before.before.loop-at.invariant.2 b a e q) c.before.loop-at-test.true).known)) }

@@ -56,15 +56,6 @@ add-u16-at c = search rules
 u16-at-requires : tie.Need-u16_at-requires invariant-loop decreases-loop
 u16-at-requires c κs = search rules
 
-same-length-2 : tie.Need-shape_of-table-then-u16_at-ne2 invariant-loop decreases-loop
-same-length-2 c = search rules
-
-returns-2 : tie.Need-returns-then-u16_at-ne2 invariant-loop decreases-loop
-returns-2 c =
-    let d = c.before.before.before.before.before in
-    table_filled _ _ _ _ _ _ _ d.before.before.before.before.before.before.byte_at-n.ensures.0 d.before.before.before.before.before.byte_at-m.ensures.0 d.before.before.before.clear.ensures
-    (λ b a e. other_stands (c.before.before.before.loop-at.invariant.2 b a e) (λ k. c.if-u16_at-ne2.true (c.before.u16_at.ensures.0 ∙ k)))
-
 put-move-requires : tie.Need-put_move-requires invariant-loop decreases-loop
 put-move-requires c κs = (omega arith, omega arith)
 
@@ -73,18 +64,6 @@ add_at c = search rules
 
 loop-less : tie.Need-loop-at-smaller invariant-loop decreases-loop
 loop-less c = omega arith
-
-loop-again : tie.Need-loop-at-preserved invariant-loop decreases-loop
-loop-again c =
-    let k = c.before.before.before.before.before.before.before in
-    let v = k.loop-at.invariant in (
-      omega arith,
-      search rules,
-      λ b a e.
-          entered a (v.2 b a e) _ _ (k.before.before.before.before.before.before.before.byte_at-m.ensures.0 ∙ m_at _ b e)
-          (sym c.before.before.before.before.before.u16_at.ensures.0 ∙ c.before.before.before.before.if-u16_at-ne2.false)
-          c.before.before.put_move.ensures,
-    )
 
 same-length-3 : tie.Need-shape_of-table invariant-loop decreases-loop
 same-length-3 c = search rules
@@ -120,3 +99,24 @@ fill_table_spec =
     loop-again
     same-length-3
     returns-3)
+  where
+    same-length-2 : tie.Need-shape_of-table-then-u16_at-ne2 invariant-loop decreases-loop
+    same-length-2 c = search rules
+
+    returns-2 : tie.Need-returns-then-u16_at-ne2 invariant-loop decreases-loop
+    returns-2 c =
+        let d = c.before.before.before.before.before in
+        table_filled _ _ _ _ _ _ _ d.before.before.before.before.before.before.byte_at-n.ensures.0 d.before.before.before.before.before.byte_at-m.ensures.0 d.before.before.before.clear.ensures
+        (λ b a e. other_stands (c.before.before.before.loop-at.invariant.2 b a e) (λ k. c.if-u16_at-ne2.true (c.before.u16_at.ensures.0 ∙ k)))
+
+    loop-again : tie.Need-loop-at-preserved invariant-loop decreases-loop
+    loop-again c =
+        let k = c.before.before.before.before.before.before.before in
+        let v = k.loop-at.invariant in (
+          omega arith,
+          search rules,
+          λ b a e.
+              entered a (v.2 b a e) _ _ (k.before.before.before.before.before.before.before.byte_at-m.ensures.0 ∙ m_at _ b e)
+              (sym c.before.before.before.before.before.u16_at.ensures.0 ∙ c.before.before.before.before.if-u16_at-ne2.false)
+              c.before.before.put_move.ensures,
+        )

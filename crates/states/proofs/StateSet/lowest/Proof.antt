@@ -12,8 +12,8 @@ small w = omega (arith, trailing_le 64 w)
 cast-result : tie.Need-overflow_cast-result
 cast-result c = record { fits = small _ }
 
-returns : tie.Need-returns
-returns c = trailing_lowest _
-
 pub lowest_spec : {M : Type 1} → statement M
 lowest_spec = tie.close (tie.spec cast-result returns)
+  where
+    returns : tie.Need-returns
+    returns c = trailing_lowest _

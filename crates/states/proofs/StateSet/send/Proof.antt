@@ -107,19 +107,6 @@ lowest-requires c κs = search rules
 outcomes-at-requires : tie.Need-outcomes_at-outcomes-requires invariant-loop decreases-loop
 outcomes-at-requires c κs = (omega (arith, low c, c.lowest-source.ensures), few c, (loop c).before.before.before.if-m-gt32.false)
 
-stuck-requires-3 : tie.Need-stuck-requires-then-outcomes-eq0 invariant-loop decreases-loop
-stuck-requires-3 c κs = search rules
-
--- a state can't carry the command out
-returns-3 : tie.Need-returns-then-outcomes-eq0 invariant-loop decreases-loop
-returns-3 c =
-    let k = c.before.before.before in
-    let d = device (start k) in
-    let none : d.outcomes k.lowest-source.result (start k).args.command ≡ 0 = sym c.before.before.outcomes_at-outcomes.ensures ∙ c.before.if-outcomes-eq0.true in
-    c.stuck-then-outcomes-eq0.ensures
-    ∙ sent_fails d (start k).args.command (start k).args.self.mask _ ((next k _ refl).gives ∙ to-self k)
-    (stuck_stays d (start k).args.command (step k (so_far k) k.lowest-source.result) (present (start k).args.n _) (rw none))
-
 with-requires : tie.Need-with-set-requires invariant-loop decreases-loop
 with-requires c κs = search rules
 
@@ -130,16 +117,6 @@ loop-less : tie.Need-loop-rest-smaller invariant-loop decreases-loop
 loop-less c =
     let k = c.before.before.before.before in
     left_less (start k).args.n _ (few k) (loop k).loop-rest.invariant.1.low (some k) _ (mask_of c.without_lowest-rest.ensures)
-
-loop-again : tie.Need-loop-rest-preserved invariant-loop decreases-loop
-loop-again c =
-    let k = c.before.before.before.before in
-    let d = device (start k) in
-    let o = d.outcomes k.lowest-source.result (start k).args.command in
-    let found : o ≡ 0 → ⊥ = λ z. c.before.before.if-outcomes-eq0.false (c.before.before.before.outcomes_at-outcomes.ensures ∙ z) in
-    let more : step k (so_far k) k.lowest-source.result ≡ record { set = c.before.with-set.result; able = true; visits = (loop k).loop-rest.invariant.0 + 1 } =
-    rw (c.before.with-set.ensures, c.before.before.before.outcomes_at-outcomes.ensures, ne_eqb o 0 found) in
-    ((loop k).loop-rest.invariant.0 + 1, rw (← more) (next k _ (mask_of c.without_lowest-rest.ensures)))
 
 returns-4 : tie.Need-returns invariant-loop decreases-loop
 returns-4 c =
@@ -175,3 +152,26 @@ send_spec =
     loop-less
     loop-again
     returns-4)
+  where
+    stuck-requires-3 : tie.Need-stuck-requires-then-outcomes-eq0 invariant-loop decreases-loop
+    stuck-requires-3 c κs = search rules
+
+    -- a state can't carry the command out
+    returns-3 : tie.Need-returns-then-outcomes-eq0 invariant-loop decreases-loop
+    returns-3 c =
+        let k = c.before.before.before in
+        let d = device (start k) in
+        let none : d.outcomes k.lowest-source.result (start k).args.command ≡ 0 = sym c.before.before.outcomes_at-outcomes.ensures ∙ c.before.if-outcomes-eq0.true in
+        c.stuck-then-outcomes-eq0.ensures
+        ∙ sent_fails d (start k).args.command (start k).args.self.mask _ ((next k _ refl).gives ∙ to-self k)
+        (stuck_stays d (start k).args.command (step k (so_far k) k.lowest-source.result) (present (start k).args.n _) (rw none))
+
+    loop-again : tie.Need-loop-rest-preserved invariant-loop decreases-loop
+    loop-again c =
+        let k = c.before.before.before.before in
+        let d = device (start k) in
+        let o = d.outcomes k.lowest-source.result (start k).args.command in
+        let found : o ≡ 0 → ⊥ = λ z. c.before.before.if-outcomes-eq0.false (c.before.before.before.outcomes_at-outcomes.ensures ∙ z) in
+        let more : step k (so_far k) k.lowest-source.result ≡ record { set = c.before.with-set.result; able = true; visits = (loop k).loop-rest.invariant.0 + 1 } =
+        rw (c.before.with-set.ensures, c.before.before.before.outcomes_at-outcomes.ensures, ne_eqb o 0 found) in
+        ((loop k).loop-rest.invariant.0 + 1, rw (← more) (next k _ (mask_of c.without_lowest-rest.ensures)))

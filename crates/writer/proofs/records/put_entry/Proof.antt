@@ -12,11 +12,6 @@ use Rattle.writer.proofs.Rows.{row-none, row-some}
 use Rattle.writer.proofs.records.put_entry.Statement.{statement}
 use Rattle.writer.proofs.records.put_entry.Tie as tie
 
-returns : tie.Need-returns-then-mask-eq0
-returns c =
-    let e = row-none c.before.before.args.mask c.before.before.args.state c.before.before.args.command c.if-mask-eq0.true in
-    (rw (← e), (rw (← e) (omega arith), omega arith))
-
 add-put-move : tie.Need-overflow_add-at
 add-put-move c = search rules
 
@@ -38,14 +33,6 @@ add-result c = search rules
 same_length : tie.Need-shape_of-d
 same_length c = search rules
 
-returns-2 : tie.Need-returns
-returns-2 c =
-    let a = c.before.before.before.before.before.before.args in
-    let e = row-some a.mask a.state a.command c.before.before.before.before.if-mask-eq0.false in
-    let size = length-move a.state a.command a.mask in
-    let put = sets_part a.d.now _ a.at (a.at + 14 - a.at) (frame (move_rec (move a.state a.command a.mask))) (omega arith) (omega (arith, size)) c.before.before.put_move.ensures in
-    (put ∙ ap (sets a.d.now a.at) e, (rw (← e) (omega (arith, size)), omega arith))
-
 pub put_entry_spec : {M : Type 1} → statement M
 put_entry_spec =
     tie.close
@@ -59,3 +46,16 @@ put_entry_spec =
     add-result
     same_length
     returns-2)
+  where
+    returns : tie.Need-returns-then-mask-eq0
+    returns c =
+        let e = row-none c.before.before.args.mask c.before.before.args.state c.before.before.args.command c.if-mask-eq0.true in
+        (rw (← e), (rw (← e) (omega arith), omega arith))
+
+    returns-2 : tie.Need-returns
+    returns-2 c =
+        let a = c.before.before.before.before.before.before.args in
+        let e = row-some a.mask a.state a.command c.before.before.before.before.if-mask-eq0.false in
+        let size = length-move a.state a.command a.mask in
+        let put = sets_part a.d.now _ a.at (a.at + 14 - a.at) (frame (move_rec (move a.state a.command a.mask))) (omega arith) (omega (arith, size)) c.before.before.put_move.ensures in
+        (put ∙ ap (sets a.d.now a.at) e, (rw (← e) (omega (arith, size)), omega arith))

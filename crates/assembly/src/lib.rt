@@ -23,7 +23,7 @@ pub const SCRATCH_LEN: usize = 64;
 // What assembling answers: the code and its place; the numbers of commands and legs and the sum of the commands' weights, each 0 on a refusal; the
 // least sum for each of the 33 points, 4,294,967,295 where there is no chain.
 #[repr(C)]
-#[derive(Drop)]
+#[derive(Clone, Copy)]
 pub struct Assembly {
     pub code: u64,
     pub place: u64,

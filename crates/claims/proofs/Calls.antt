@@ -2,7 +2,6 @@
 use mathlib.Core.Path.{◌≡◌, refl, subst, subst⁻¹, subst₂}
 use mathlib.Core.List.{List}
 use Prim.Native.Nat.{ℕ, ◌≤◌}
-use prog.Routine.{Routine}
 use lib.ListN.{length}
 use Rattle.base.specs.Lists.{Bytes, Written}
 use Rattle.base.specs.Sizes.{LongEnough}
@@ -80,7 +79,7 @@ use Rattle.planner.specs.contracts.rollback_assemble_legs as assemble-legs
 use Rattle.report.specs.Contract.{ReportAs}
 use Rattle.report.proofs.Exactly.{reports}
 use Rattle.report.specs.contracts.report as report
-use Rattle.claims.specs.Always.{Always}
+use Rattle.claims.specs.Always.{Compiled, Always}
 use Rattle.claims.specs.Claims.{on_read, on_check, on_check_table, on_forecast, on_find, on_write, on_assemble, on_small, on_legs, on_lay_out, on_lookup, on_outcomes, on_report, WellWritten, ReadClaims, ChecksWrong, CheckClaims, AsChecking, CheckTableClaims, ForecastNumbers, NoneExceeds, ForecastClaims, FindsZero, FindsBarred, FindsNone, FoundCommands, FoundAsChecking, FindClaims, WriteClaims, AssembleClaims, SmallClaims, EqualForms, LegsClaims, AsAssembling, PaperClaims, LookupClaims, RuleClaims, ConstantTable, RidgeTable, PortableTable, ReportClaims, on_visit, on_sent, VisitClaims}
 use Rattle.claims.specs.Worked.{ChecksWorked, TableWorked, ForecastsWorked, FindsWorked, AssemblesWorked, SmallWorked, PaperWorked, ReadsWorked, WritesWorked}
 use Rattle.claims.proofs.Weaker.{weaker}
@@ -95,7 +94,7 @@ checks_wrong : (why : Reason) {book : List ℕ} {l : Lent} {r : Checking} {l' : 
 checks_wrong why h x = record { only = wrong_for h x why; always = λ long b a same i w. (checked-wrong h x long a same w).0 }
 
 -- the two forms of assembling, each by its own contract
-pub equal_claims : (ρ σ : Routine) → Always assemble.ended ρ (on_assemble (AssembleAs in_bytes)) → Always assemble-small.ended σ (on_small SmallAs)
+pub equal_claims : (ρ σ : Compiled) → Always assemble.ended ρ (on_assemble (AssembleAs in_bytes)) → Always assemble-small.ended σ (on_small SmallAs)
     → EqualForms ρ σ
 equal_claims ρ σ first small =
     record {
@@ -106,7 +105,7 @@ equal_claims ρ σ first small =
     }
 
 -- what applies a command to a set, each routine by its own contract
-pub visit_claims : (ρ σ : Routine) → Always visit.ended ρ (on_visit outcomes_in (λ d c w r. r ≡ visited_in d c w))
+pub visit_claims : (ρ σ : Compiled) → Always visit.ended ρ (on_visit outcomes_in (λ d c w r. r ≡ visited_in d c w))
     → Always sent.ended σ (on_sent outcomes_in (λ d c w r. r ≡ sent_in d c w)) → VisitClaims ρ σ
 visit_claims ρ σ visits sends =
     record {
@@ -120,7 +119,7 @@ visit_claims ρ σ visits sends =
           (on_sent outcomes_in (λ d c w r. d.n ≤ 64 → d.m ≤ 32 → SendsToPresent d c w r)) (λ κs a r e q hn hm. sent_present _ _ _ hn hm q) sends;
     }
 
-module _ (ρ : Routine) where
+module _ (ρ : Compiled) where
   pub read_claims : Always read.ended ρ (on_read ReadAs) → ReadClaims ρ
   read_claims always =
       record {
@@ -270,7 +269,7 @@ worked_writing {n} {m} {items} {l} {out} {r} {out'} x =
       refused = λ answer g e. g.result (subst (λ (o : List ℕ). Writes n m items l o r out') e x);
     }
 
-module _ (ρ : Routine) where
+module _ (ρ : Compiled) where
   pub read_worked : Always read.ended ρ (on_read ReadAs) → Always read.ended ρ (on_read ReadsWorked)
   read_worked = weaker read.ended ρ (on_read ReadAs) (on_read ReadsWorked) (λ κs a r e c answer gives stated. gives.result (reads c) stated)
 

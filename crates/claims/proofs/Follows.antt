@@ -7,7 +7,6 @@ use Prim.Native.Nat.{ℕ, suc, ◌+◌, ◌*◌, ◌/◌, ◌%◌, ◌≤◌, �
 use native.Mathlib.Nat.{min-le_left}
 use native.Mathlib.Decide.{dec_lt}
 use native.Mathlib.Omega.{arith}
-use prog.Routine.{Routine}
 use lib.Dec.{eqb}
 use lib.ListN.{length, get_or, take, length-append, length-take}
 use lib.Seq.{ext_get_or, get_or-take}
@@ -57,7 +56,7 @@ use Rattle.planner.specs.Structs.{in_structs}
 use Rattle.planner.specs.contracts.rollback_assemble_legs as assemble-legs
 use Rattle.report.specs.Prints.{zeros, Prints, Reports}
 use Rattle.report.proofs.Exactly.{zeros-long}
-use Rattle.claims.specs.Always.{Always}
+use Rattle.claims.specs.Always.{Compiled, Always}
 use Rattle.claims.specs.Claims.{Find, on_read, on_check, on_forecast, on_find, on_write, on_assemble, on_small, on_legs, ReadsZero, ChecksZero, ForecastsZero, WellWritten, ReadClaims, CheckClaims, ForecastClaims, FindsZero, FindsBarred, FindsNone, FoundCommands, FoundAsChecking, with_item, FoundJoins, FindClaims, WriteClaims, PlanUndoes, SmallUndoes, AssembleClaims, LegsClaims, SmallClaims, GivenBack, ChecksWrong, UnitsForeseen, ForecastNumbers, EqualForms, ConstantTable}
 use Rattle.claims.proofs.Weaker.{weaker}
 
@@ -128,7 +127,7 @@ module _ {r : Paged} {l' : AllLent ℕ} {page' : List ℕ} (t : TakenDown r l' p
   legs_on_page p = t.legs ∙ p.legs_written
 
 -- plan and legs of both forms are one function of what is lent
-pub equal_rooms : {ρ σ : Routine} → EqualForms ρ σ → (left : Asked → Room ℕ → Room ℕ)
+pub equal_rooms : {ρ σ : Compiled} → EqualForms ρ σ → (left : Asked → Room ℕ → Room ℕ)
     × Always assemble.ended ρ (on_assemble (λ ask l r l'. LongEnough (all_sizes in_bytes l) → l'.room ≡ left ask l.room))
     × Always assemble-small.ended σ (on_small (λ ask scratch room r scratch' room'. LongEnough (small_sizes scratch room)
     → room' ≡ left ask room))
@@ -223,36 +222,36 @@ module _ (d : DeviceRule) {not-empty : ℕ} {table : List ℕ} (c : ConstantTabl
 -- ---- of a routine with the claims of its call, whatever it is passed
 
 -- Q is read, accepted and foreseen
-pub reads_q : (ρ : Routine) → ReadClaims ρ → Always read.ended ρ (on_read (λ book l r l'. book ≡ bytes_q → LongEnough (sizes l) → r.code ≡ 0))
+pub reads_q : (ρ : Compiled) → ReadClaims ρ → Always read.ended ρ (on_read (λ book l r l'. book ≡ bytes_q → LongEnough (sizes l) → r.code ≡ 0))
 reads_q ρ c =
     weaker read.ended ρ (on_read ReadsZero) (on_read (λ book l r l'. book ≡ bytes_q → LongEnough (sizes l) → r.code ≡ 0))
     (λ κs a r e z same long. z.1 (long, subst⁻¹ WellFormed same formed_q)) c.zero
 
-pub checks_q : (ρ : Routine) → CheckClaims ρ → Always check.ended ρ (on_check (λ book l r l'. book ≡ bytes_q → LongEnough (sizes l) → r.code ≡ 0))
+pub checks_q : (ρ : Compiled) → CheckClaims ρ → Always check.ended ρ (on_check (λ book l r l'. book ≡ bytes_q → LongEnough (sizes l) → r.code ≡ 0))
 checks_q ρ c =
     weaker check.ended ρ (on_check ChecksZero) (on_check (λ book l r l'. book ≡ bytes_q → LongEnough (sizes l) → r.code ≡ 0))
     (λ κs a r e z same long. z.1 (long, (book_q, subst⁻¹ (λ (s : List ℕ). AcceptedBook s book_q) same accepted_q))) c.zero
 
-pub foresees_q : (ρ : Routine) → ForecastClaims ρ → Always forecast.ended ρ (on_forecast (λ book i r. book ≡ bytes_q → i ≤ 32 → r.code ≡ 0))
+pub foresees_q : (ρ : Compiled) → ForecastClaims ρ → Always forecast.ended ρ (on_forecast (λ book i r. book ≡ bytes_q → i ≤ 32 → r.code ≡ 0))
 foresees_q ρ c =
     weaker forecast.ended ρ (on_forecast ForecastsZero) (on_forecast (λ book i r. book ≡ bytes_q → i ≤ 32 → r.code ≡ 0))
     (λ κs a r e z same few. z.1 (subst⁻¹ WellFormed same formed_q, few)) c.zero
 
 -- what is written is at most 31,178 bytes
-pub writes_most : (ρ : Routine) → WriteClaims ρ → Always write.ended ρ (on_write (λ n m items l out r out'. r.code ≡ 0 → r.length ≤ 31178))
+pub writes_most : (ρ : Compiled) → WriteClaims ρ → Always write.ended ρ (on_write (λ n m items l out r out'. r.code ≡ 0 → r.length ≤ 31178))
 writes_most ρ c =
     weaker write.ended ρ (on_write WellWritten) (on_write (λ n m items l out r out'. r.code ≡ 0 → r.length ≤ 31178)) (λ κs a r e w z. (w z).1)
     c.well_formed
 
 -- on code 0 the bytes in the plan undo the run, in every form
-pub undoing : (ρ : Routine) → AssembleClaims ρ → Always assemble.ended ρ (on_assemble PlanUndoes)
+pub undoing : (ρ : Compiled) → AssembleClaims ρ → Always assemble.ended ρ (on_assemble PlanUndoes)
 undoing ρ c = weaker assemble.ended ρ (on_assemble (Demand in_bytes)) (on_assemble PlanUndoes) (λ κs a r e x z b u g. whole_plan in_bytes x z g) c.demand_three
 
-pub undoing_legs : (ρ : Routine) → LegsClaims ρ → Always assemble-legs.ended ρ (on_legs PlanUndoes)
+pub undoing_legs : (ρ : Compiled) → LegsClaims ρ → Always assemble-legs.ended ρ (on_legs PlanUndoes)
 undoing_legs ρ c =
     weaker assemble-legs.ended ρ (on_legs (Demand in_structs)) (on_legs PlanUndoes) (λ κs a r e x z b u g. whole_plan in_structs x z g) c.demand_three
 
-pub undoing_small : (ρ : Routine) → SmallClaims ρ → Always assemble-small.ended ρ (on_small SmallUndoes)
+pub undoing_small : (ρ : Compiled) → SmallClaims ρ → Always assemble-small.ended ρ (on_small SmallUndoes)
 undoing_small ρ c =
     weaker assemble-small.ended ρ (on_small SmallDemand) (on_small SmallUndoes) (λ κs a r e x z b u g. small-undoes x z g) c.demand_three
 
@@ -291,7 +290,7 @@ joins {book} {b} a few x allowed accepted =
       accepted = each_append (Accepted (device_of b)) (items_of b) (x ∷ []) a.accepted (accepted, tt);
     }
 
-pub found_joins : (ρ : Routine) → FindClaims ρ → Always find.ended ρ (on_find FoundJoins)
+pub found_joins : (ρ : Compiled) → FindClaims ρ → Always find.ended ρ (on_find FoundJoins)
 found_joins ρ c =
     weaker find.ended ρ (on_find FoundCommands) (on_find FoundJoins)
     (λ κs a r e f z b accepted few. let k = (f.first z b accepted).makes in joins accepted few _ k.allowed k.accepted) c.commands
@@ -305,7 +304,7 @@ abbrev EmptyMask : Find
 EmptyMask book q table r table' =
     2048 ≤ length table → (b : Book) → AcceptedBook book b → MayHold (device_of b) q → (q.phi ≡ 0) ⊎ (q.psi ≡ 0) → r.code ≡ 15
 
-pub empty-mask : (ρ : Routine) → FindClaims ρ → Always find.ended ρ (on_find EmptyMask)
+pub empty-mask : (ρ : Compiled) → FindClaims ρ → Always find.ended ρ (on_find EmptyMask)
 empty-mask ρ c =
     weaker find.ended ρ (on_find FindsNone) (on_find EmptyMask)
     (λ κs a r e z long b accepted hold none. z.1 (long, (b, accepted, hold, λ cs k. no_use (device_of b) (sought _ _ _) cs none k))) c.fifteen
@@ -314,7 +313,7 @@ empty-mask ρ c =
 abbrev TooMany : Find
 TooMany book q table r table' = 2048 ≤ length table → (b : Book) → AcceptedBook book b → 8 < length q.forward → r.code ≡ 14
 
-pub nine-forward : (ρ : Routine) → FindClaims ρ → Always find.ended ρ (on_find TooMany)
+pub nine-forward : (ρ : Compiled) → FindClaims ρ → Always find.ended ρ (on_find TooMany)
 nine-forward ρ c =
     weaker find.ended ρ (on_find FindsBarred) (on_find TooMany)
     (λ κs a r e z long b accepted many. z.1 (long, (b, accepted, λ (cs, allowed). omega (arith, allowed.most)))) c.fourteen
@@ -337,7 +336,7 @@ own_makes {b = b} a i l few =
       accepted = each_at (Accepted (device_of b)) (items_of b) a.accepted i _ l;
     }
 
-pub own_found : (ρ : Routine) → FindClaims ρ → Always find.ended ρ (on_find OwnFound)
+pub own_found : (ρ : Compiled) → FindClaims ρ → Always find.ended ρ (on_find OwnFound)
 own_found ρ c =
     weaker find.ended ρ (on_find FindsZero) (on_find OwnFound)
     (λ κs a r e z long b accepted i l few same. z.1 (long, (b, accepted, ((item (items_of b) i).reverse, subst⁻¹ (λ (q : Sought). Makes (device_of b) q (item (items_of b) i).reverse) same (own_makes accepted i l few)))))
@@ -349,7 +348,7 @@ TurnedDown book q table r table' =
     (slots weights : List ℕ) (c : Checking) (l' : Lent) → Checks book (lent table slots weights) c l' → 2176 ≤ length slots → 32 ≤ length weights
     → c.code ≡ 8 → (r.code ≡ 8) × (r.place ≡ c.place)
 
-pub turned_down : (ρ : Routine) → FindClaims ρ → Always find.ended ρ (on_find TurnedDown)
+pub turned_down : (ρ : Compiled) → FindClaims ρ → Always find.ended ρ (on_find TurnedDown)
 turned_down ρ c =
     weaker find.ended ρ (on_find FoundAsChecking) (on_find TurnedDown)
     (λ κs a r e x slots weights k l' y long enough eight.

@@ -36,9 +36,9 @@ use Rattle.reversal.proofs.EndToEnd.{chain-undoes, never-fits}
 use Rattle.reversal.proofs.Assembling.{cost-most, numbers-right, answer-right, answers_unique}
 use Rattle.reversal.proofs.Sizes.{worked_units}
 use Rattle.reversal.proofs.Cases.{twelve, weighted}
-use Rattle.states.proofs.StateSet.visit.Symbol.{routine as visit-routine}
+use Rattle.states.proofs.StateSet.visit.Symbol as visit_routine_symbol
 use Rattle.states.proofs.StateSet.visit.Met.{met as visit-met}
-use Rattle.states.proofs.StateSet.sent.Symbol.{routine as sent-routine}
+use Rattle.states.proofs.StateSet.sent.Symbol as sent_routine_symbol
 use Rattle.states.proofs.StateSet.sent.Met.{met as sent-met}
 use Rattle.book.specs.Book.{Book, device_of, AllowedBook, bytes_of, WellFormed, items_of}
 use Rattle.reversal.proofs.Slips.{slips}
@@ -60,7 +60,7 @@ use Rattle.reader.proofs.Cases.{q_read}
 use Rattle.reader.specs.Edges as read-edges
 use Rattle.reader.proofs.Edges as read-edge-cases
 use Rattle.reader.specs.contracts.read as read
-use Rattle.reader.proofs.read.Symbol.{routine as read-routine}
+use Rattle.reader.proofs.read.Symbol as read_routine_symbol
 use Rattle.reader.proofs.read.Met.{met as read-met}
 use Rattle.checker.specs.declared.Checking.{Checking}
 use Rattle.checker.specs.declared.Reason.TheVariants.{NotEffective}
@@ -74,10 +74,10 @@ use Rattle.checker.proofs.Cases.{q_checked, tables_checked}
 use Rattle.checker.specs.Edges as check-edges
 use Rattle.checker.proofs.Edges as check-edge-cases
 use Rattle.checker.specs.contracts.check as check
-use Rattle.checker.proofs.check.Symbol.{routine as check-routine}
+use Rattle.checker.proofs.check.Symbol as check_routine_symbol
 use Rattle.checker.proofs.check.Met.{met as check-met}
 use Rattle.checker.specs.contracts.check_table as check-table
-use Rattle.checker.proofs.check_table.Symbol.{routine as check-table-routine}
+use Rattle.checker.proofs.check_table.Symbol as check_table_routine_symbol
 use Rattle.checker.proofs.check_table.Met.{met as check-table-met}
 use Rattle.forecast.specs.declared.Forecasted.{Forecasted}
 use Rattle.forecast.specs.Forecasts.{Forecasts}
@@ -86,7 +86,7 @@ use Rattle.forecast.proofs.Unique.{forecasts_unique}
 use Rattle.forecast.proofs.Bounds.{units_reached}
 use Rattle.forecast.proofs.Cases.{q_forecast}
 use Rattle.forecast.specs.contracts.forecast as forecast
-use Rattle.forecast.proofs.forecast.Symbol.{routine as forecast-routine}
+use Rattle.forecast.proofs.forecast.Symbol as forecast_routine_symbol
 use Rattle.forecast.proofs.forecast.Met.{met as forecast-met}
 use Rattle.finder.specs.declared.Found.{Found}
 use Rattle.finder.specs.Finds.{Sought, sought, FirstOf, MayHold, Finds}
@@ -94,7 +94,7 @@ use Rattle.finder.specs.Cases.{RingFound, QFound}
 use Rattle.finder.proofs.Unique.{first_unique, finds_unique}
 use Rattle.finder.proofs.Cases.{ring_found, q_found}
 use Rattle.finder.specs.contracts.find as find
-use Rattle.finder.proofs.find.Symbol.{routine as find-routine}
+use Rattle.finder.proofs.find.Symbol as find_routine_symbol
 use Rattle.finder.proofs.find.Met.{met as find-met}
 use Rattle.writer.specs.declared.Writing.{Writing}
 use Rattle.writer.specs.Writes.{Writes}
@@ -104,7 +104,7 @@ use Rattle.writer.proofs.Cases as write-cases
 use Rattle.writer.specs.Edges as write-edges
 use Rattle.writer.proofs.Edges as write-edge-cases
 use Rattle.writer.specs.contracts.write as write
-use Rattle.writer.proofs.write.Symbol.{routine as write_routine}
+use Rattle.writer.proofs.write.Symbol as write_routine_symbol
 use Rattle.writer.proofs.write.Met.{met as write-met}
 use Rattle.runs.specs.RunBytes.{run_bytes}
 use Rattle.runs.specs.Example as run-example
@@ -125,10 +125,10 @@ use Rattle.assembly.specs.Edges.{Edges, SmallEdges}
 use Rattle.assembly.proofs.Edges.{edges, small_edges}
 use Rattle.assembly.proofs.Small.{small_unique}
 use Rattle.assembly.specs.contracts.assemble_small as assemble-small
-use Rattle.assembly.proofs.assemble_small.Symbol.{routine as assemble-small-routine}
+use Rattle.assembly.proofs.assemble_small.Symbol as assemble_small_routine_symbol
 use Rattle.assembly.proofs.assemble_small.Met.{met as assemble-small-met}
 use Rattle.assembly.specs.contracts.assemble as assemble
-use Rattle.assembly.proofs.assemble.Symbol.{routine as assemble-routine}
+use Rattle.assembly.proofs.assemble.Symbol as assemble_routine_symbol
 use Rattle.assembly.proofs.assemble.Met.{met as assemble-met}
 use Rattle.lookups.specs.declared.LookupResult.{LookupResult}
 use Rattle.lookups.specs.Rules.{DeviceRule, OutcomesOf, WorksOut, LeadsInside}
@@ -139,21 +139,21 @@ use Rattle.ridge_rule.specs.Ridge.{ridge}
 use Rattle.ridge_rule.specs.Figures as ridge-example
 use Rattle.ridge_rule.proofs.Rules.{rule_mask_lem as ridge-mask, works_out as ridge-works-out, leads_inside as ridge-leads-inside}
 use Rattle.ridge_rule.proofs.Figures as ridge-cases
-use Rattle.ridge.proofs.lookup.Symbol.{routine as ridge-lookup-routine}
+use Rattle.ridge.proofs.lookup.Symbol as ridge_lookup_routine_symbol
 use Rattle.ridge.proofs.lookup.Met.{met as ridge-lookup-met}
-use Rattle.ridge_rule.proofs.outcomes.Symbol.{routine as ridge-outcomes-routine}
+use Rattle.ridge_rule.proofs.outcomes.Symbol as ridge_outcomes_routine_symbol
 use Rattle.ridge_rule.proofs.outcomes.Met.{met as ridge-outcomes-met}
-use Rattle.ridge.proofs.table.Symbol.{routine as ridge-table-routine}
+use Rattle.ridge.proofs.table.Symbol as ridge_table_routine_symbol
 use Rattle.ridge.proofs.table.Met.{met as ridge-table-met}
 use Rattle.portable_rule.specs.Portable.{portable}
 use Rattle.portable_rule.specs.Figures as portable-example
 use Rattle.portable_rule.proofs.Rules.{rule_mask_lem as portable-mask, works_out as portable-works-out, leads_inside as portable-leads-inside}
 use Rattle.portable_rule.proofs.Figures as portable-cases
-use Rattle.portable.proofs.lookup.Symbol.{routine as portable-lookup-routine}
+use Rattle.portable.proofs.lookup.Symbol as portable_lookup_routine_symbol
 use Rattle.portable.proofs.lookup.Met.{met as portable-lookup-met}
-use Rattle.portable_rule.proofs.outcomes.Symbol.{routine as portable-outcomes-routine}
+use Rattle.portable_rule.proofs.outcomes.Symbol as portable_outcomes_routine_symbol
 use Rattle.portable_rule.proofs.outcomes.Met.{met as portable-outcomes-met}
-use Rattle.portable.proofs.table.Symbol.{routine as portable-table-routine}
+use Rattle.portable.proofs.table.Symbol as portable_table_routine_symbol
 use Rattle.portable.proofs.table.Met.{met as portable-table-met}
 use Rattle.paper.specs.declared.Paged.{Paged}
 use Rattle.paper.specs.Taken.{commands_on, down}
@@ -164,33 +164,33 @@ use Rattle.paper.proofs.Cases.{lines, page_runs}
 use Rattle.paper.specs.Edges as paper-edges
 use Rattle.paper.proofs.Edges as paper-edge-cases
 use Rattle.paper.specs.contracts.lay_out as lay-out
-use Rattle.paper.proofs.lay_out.Symbol.{routine as lay-out-routine}
+use Rattle.paper.proofs.lay_out.Symbol as lay_out_routine_symbol
 use Rattle.paper.proofs.lay_out.Met.{met as lay-out-met}
 use Rattle.planner.specs.Structs.{in_structs}
 use Rattle.planner.specs.Cases.{StructRuns}
 use Rattle.planner.proofs.Cases.{struct_runs, struct_edges}
-use Rattle.planner.proofs.rollback_read.Symbol.{routine as exported-read-routine}
+use Rattle.planner.proofs.rollback_read.Symbol as exported_read_routine_symbol
 use Rattle.planner.proofs.rollback_read.Met.{met as exported-read-met}
-use Rattle.planner.proofs.rollback_check.Symbol.{routine as exported-check-routine}
+use Rattle.planner.proofs.rollback_check.Symbol as exported_check_routine_symbol
 use Rattle.planner.proofs.rollback_check.Met.{met as exported-check-met}
-use Rattle.planner.proofs.rollback_forecast.Symbol.{routine as exported-forecast-routine}
+use Rattle.planner.proofs.rollback_forecast.Symbol as exported_forecast_routine_symbol
 use Rattle.planner.proofs.rollback_forecast.Met.{met as exported-forecast-met}
-use Rattle.planner.proofs.rollback_find.Symbol.{routine as exported-find-routine}
+use Rattle.planner.proofs.rollback_find.Symbol as exported_find_routine_symbol
 use Rattle.planner.proofs.rollback_find.Met.{met as exported-find-met}
-use Rattle.planner.proofs.rollback_write.Symbol.{routine as exported-write-routine}
+use Rattle.planner.proofs.rollback_write.Symbol as exported_write_routine_symbol
 use Rattle.planner.proofs.rollback_write.Met.{met as exported-write-met}
-use Rattle.planner.proofs.rollback_assemble.Symbol.{routine as exported-assemble-routine}
+use Rattle.planner.proofs.rollback_assemble.Symbol as exported_assemble_routine_symbol
 use Rattle.planner.proofs.rollback_assemble.Met.{met as exported-assemble-met}
-use Rattle.planner.proofs.rollback_assemble_small.Symbol.{routine as exported-small-routine}
+use Rattle.planner.proofs.rollback_assemble_small.Symbol as exported_small_routine_symbol
 use Rattle.planner.proofs.rollback_assemble_small.Met.{met as exported-small-met}
 use Rattle.planner.specs.contracts.rollback_assemble_legs as assemble-legs
-use Rattle.planner.proofs.rollback_assemble_legs.Symbol.{routine as assemble-legs-routine}
+use Rattle.planner.proofs.rollback_assemble_legs.Symbol as assemble_legs_routine_symbol
 use Rattle.planner.proofs.rollback_assemble_legs.Met.{met as assemble-legs-met}
-use Rattle.planner.proofs.rollback_page.Symbol.{routine as exported-page-routine}
+use Rattle.planner.proofs.rollback_page.Symbol as exported_page_routine_symbol
 use Rattle.planner.proofs.rollback_page.Met.{met as exported-page-met}
-use Rattle.planner.proofs.rollback_ridge.Symbol.{routine as exported-ridge-routine}
+use Rattle.planner.proofs.rollback_ridge.Symbol as exported_ridge_routine_symbol
 use Rattle.planner.proofs.rollback_ridge.Met.{met as exported-ridge-met}
-use Rattle.planner.proofs.rollback_portable.Symbol.{routine as exported-portable-routine}
+use Rattle.planner.proofs.rollback_portable.Symbol as exported_portable_routine_symbol
 use Rattle.planner.proofs.rollback_portable.Met.{met as exported-portable-met}
 use Rattle.report.specs.Prints.{Prints, Reports}
 use Rattle.report.specs.Example.{Examples}
@@ -199,14 +199,103 @@ use Rattle.report.proofs.Unique.{prints_unique}
 use Rattle.report.proofs.Cases.{examples}
 use Rattle.report.specs.Edges as report-edges
 use Rattle.report.proofs.Edges as report-edge-cases
-use Rattle.report.proofs.report.Symbol.{routine as report-routine}
+use Rattle.report.proofs.report.Symbol as report_routine_symbol
 use Rattle.report.proofs.report.Met.{met as report-met}
 use Rattle.claims.specs.Claims.{on_read, on_check, on_check_table, on_forecast, on_find, on_write, on_assemble, on_small, on_legs, on_lay_out, ReadClaims, UnitsForeseen, CheckClaims, CheckTableClaims, ForecastNumbers, ForecastClaims, FoundJoins, FindClaims, WriteClaims, PlanUndoes, SmallUndoes, AssembleClaims, SmallClaims, EqualForms, LegsClaims, PaperClaims, LookupClaims, RuleClaims, ConstantTable, RidgeTable, PortableTable, VisitClaims, ReportClaims}
-use Rattle.claims.specs.Always.{Always}
+use Rattle.claims.specs.Always.{Compiled, Always}
 use Rattle.claims.specs.Worked.{ChecksWorked, TableWorked, ForecastsWorked, FindsWorked, AssemblesWorked, SmallWorked, PaperWorked, ReadsWorked, WritesWorked}
 use Rattle.claims.proofs.Foreseen as foreseen
 use Rattle.claims.proofs.Follows as follows
 use Rattle.claims.proofs.Calls.{read_claims, check_claims, forecast_claims, find_claims, write_claims, assemble_claims, small_claims, equal_claims, legs_claims, paper_claims, lookup_claims, rule_claims, ridge_table_claims, portable_table_claims, report_claims, check_worked, forecast_worked, find_worked, assemble_worked, small_worked, legs_worked, paper_worked, check_table_claims, table_worked, visit_claims, read_worked, write_worked}
+
+-- ---- the compiled code of the calls
+
+abbrev visit_routine : Compiled
+visit_routine = record { name = visit_routine_symbol.name; code = visit_routine_symbol.code }
+
+abbrev sent_routine : Compiled
+sent_routine = record { name = sent_routine_symbol.name; code = sent_routine_symbol.code }
+
+abbrev read_routine : Compiled
+read_routine = record { name = read_routine_symbol.name; code = read_routine_symbol.code }
+
+abbrev check_routine : Compiled
+check_routine = record { name = check_routine_symbol.name; code = check_routine_symbol.code }
+
+abbrev check_table_routine : Compiled
+check_table_routine = record { name = check_table_routine_symbol.name; code = check_table_routine_symbol.code }
+
+abbrev forecast_routine : Compiled
+forecast_routine = record { name = forecast_routine_symbol.name; code = forecast_routine_symbol.code }
+
+abbrev find_routine : Compiled
+find_routine = record { name = find_routine_symbol.name; code = find_routine_symbol.code }
+
+abbrev write_routine : Compiled
+write_routine = record { name = write_routine_symbol.name; code = write_routine_symbol.code }
+
+abbrev assemble_small_routine : Compiled
+assemble_small_routine = record { name = assemble_small_routine_symbol.name; code = assemble_small_routine_symbol.code }
+
+abbrev assemble_routine : Compiled
+assemble_routine = record { name = assemble_routine_symbol.name; code = assemble_routine_symbol.code }
+
+abbrev ridge_lookup_routine : Compiled
+ridge_lookup_routine = record { name = ridge_lookup_routine_symbol.name; code = ridge_lookup_routine_symbol.code }
+
+abbrev ridge_outcomes_routine : Compiled
+ridge_outcomes_routine = record { name = ridge_outcomes_routine_symbol.name; code = ridge_outcomes_routine_symbol.code }
+
+abbrev ridge_table_routine : Compiled
+ridge_table_routine = record { name = ridge_table_routine_symbol.name; code = ridge_table_routine_symbol.code }
+
+abbrev portable_lookup_routine : Compiled
+portable_lookup_routine = record { name = portable_lookup_routine_symbol.name; code = portable_lookup_routine_symbol.code }
+
+abbrev portable_outcomes_routine : Compiled
+portable_outcomes_routine = record { name = portable_outcomes_routine_symbol.name; code = portable_outcomes_routine_symbol.code }
+
+abbrev portable_table_routine : Compiled
+portable_table_routine = record { name = portable_table_routine_symbol.name; code = portable_table_routine_symbol.code }
+
+abbrev lay_out_routine : Compiled
+lay_out_routine = record { name = lay_out_routine_symbol.name; code = lay_out_routine_symbol.code }
+
+abbrev exported_read_routine : Compiled
+exported_read_routine = record { name = exported_read_routine_symbol.name; code = exported_read_routine_symbol.code }
+
+abbrev exported_check_routine : Compiled
+exported_check_routine = record { name = exported_check_routine_symbol.name; code = exported_check_routine_symbol.code }
+
+abbrev exported_forecast_routine : Compiled
+exported_forecast_routine = record { name = exported_forecast_routine_symbol.name; code = exported_forecast_routine_symbol.code }
+
+abbrev exported_find_routine : Compiled
+exported_find_routine = record { name = exported_find_routine_symbol.name; code = exported_find_routine_symbol.code }
+
+abbrev exported_write_routine : Compiled
+exported_write_routine = record { name = exported_write_routine_symbol.name; code = exported_write_routine_symbol.code }
+
+abbrev exported_assemble_routine : Compiled
+exported_assemble_routine = record { name = exported_assemble_routine_symbol.name; code = exported_assemble_routine_symbol.code }
+
+abbrev exported_small_routine : Compiled
+exported_small_routine = record { name = exported_small_routine_symbol.name; code = exported_small_routine_symbol.code }
+
+abbrev assemble_legs_routine : Compiled
+assemble_legs_routine = record { name = assemble_legs_routine_symbol.name; code = assemble_legs_routine_symbol.code }
+
+abbrev exported_page_routine : Compiled
+exported_page_routine = record { name = exported_page_routine_symbol.name; code = exported_page_routine_symbol.code }
+
+abbrev exported_ridge_routine : Compiled
+exported_ridge_routine = record { name = exported_ridge_routine_symbol.name; code = exported_ridge_routine_symbol.code }
+
+abbrev exported_portable_routine : Compiled
+exported_portable_routine = record { name = exported_portable_routine_symbol.name; code = exported_portable_routine_symbol.code }
+
+abbrev report_routine : Compiled
+report_routine = record { name = report_routine_symbol.name; code = report_routine_symbol.code }
 
 -- ---- the meaning
 
@@ -283,72 +372,72 @@ as_long = let (b, a, e) = largest-book in (bytes_of b, (b, a, refl), e)
 
 -- ---- the calls, and the same as C and Rust link them
 
-pub reading : ReadClaims read-routine
-reading = read_claims read-routine (λ M. read-met)
+pub reading : ReadClaims read_routine
+reading = read_claims read_routine (λ M. read-met)
 
-pub exported_reading : ReadClaims exported-read-routine
-exported_reading = read_claims exported-read-routine (λ M. exported-read-met)
+pub exported_reading : ReadClaims exported_read_routine
+exported_reading = read_claims exported_read_routine (λ M. exported-read-met)
 
-pub checking : CheckClaims check-routine
-checking = check_claims check-routine (λ M. check-met)
+pub checking : CheckClaims check_routine
+checking = check_claims check_routine (λ M. check-met)
 
-pub exported_checking : CheckClaims exported-check-routine
-exported_checking = check_claims exported-check-routine (λ M. exported-check-met)
+pub exported_checking : CheckClaims exported_check_routine
+exported_checking = check_claims exported_check_routine (λ M. exported-check-met)
 
 -- with a table as the only buffer
-pub checking-table : CheckTableClaims check-table-routine
-checking-table = check_table_claims check-table-routine (λ M. check-table-met)
+pub checking-table : CheckTableClaims check_table_routine
+checking-table = check_table_claims check_table_routine (λ M. check-table-met)
 
 -- how much checking a book will take
-pub forecasting : ForecastClaims forecast-routine
-forecasting = forecast_claims forecast-routine (λ M. forecast-met)
+pub forecasting : ForecastClaims forecast_routine
+forecasting = forecast_claims forecast_routine (λ M. forecast-met)
 
-pub exported_forecasting : ForecastClaims exported-forecast-routine
-exported_forecasting = forecast_claims exported-forecast-routine (λ M. exported-forecast-met)
+pub exported_forecasting : ForecastClaims exported_forecast_routine
+exported_forecasting = forecast_claims exported_forecast_routine (λ M. exported-forecast-met)
 
 -- the reverse for an item
-pub finding : FindClaims find-routine
-finding = find_claims find-routine (λ M. find-met)
+pub finding : FindClaims find_routine
+finding = find_claims find_routine (λ M. find-met)
 
-pub exported_finding : FindClaims exported-find-routine
-exported_finding = find_claims exported-find-routine (λ M. exported-find-met)
+pub exported_finding : FindClaims exported_find_routine
+exported_finding = find_claims exported_find_routine (λ M. exported-find-met)
 
 pub writing : WriteClaims write_routine
 writing = write_claims write_routine (λ M. write-met)
 
-pub exported_writing : WriteClaims exported-write-routine
-exported_writing = write_claims exported-write-routine (λ M. exported-write-met)
+pub exported_writing : WriteClaims exported_write_routine
+exported_writing = write_claims exported_write_routine (λ M. exported-write-met)
 
 -- demand 3 is a field of each of these three
-pub assembling : AssembleClaims assemble-routine
-assembling = assemble_claims assemble-routine (λ M. assemble-met)
+pub assembling : AssembleClaims assemble_routine
+assembling = assemble_claims assemble_routine (λ M. assemble-met)
 
-pub exported_assembling : AssembleClaims exported-assemble-routine
-exported_assembling = assemble_claims exported-assemble-routine (λ M. exported-assemble-met)
+pub exported_assembling : AssembleClaims exported_assemble_routine
+exported_assembling = assemble_claims exported_assemble_routine (λ M. exported-assemble-met)
 
-pub assembling_legs : LegsClaims assemble-legs-routine
-assembling_legs = legs_claims assemble-legs-routine (λ M. assemble-legs-met)
+pub assembling_legs : LegsClaims assemble_legs_routine
+assembling_legs = legs_claims assemble_legs_routine (λ M. assemble-legs-met)
 
 -- with a scratch of 64 masks in place of table, slots and weights; demand 3 is a field of these two as well
-pub assembling_small : SmallClaims assemble-small-routine
-assembling_small = small_claims assemble-small-routine (λ M. assemble-small-met)
+pub assembling_small : SmallClaims assemble_small_routine
+assembling_small = small_claims assemble_small_routine (λ M. assemble-small-met)
 
-pub exported_assembling_small : SmallClaims exported-small-routine
-exported_assembling_small = small_claims exported-small-routine (λ M. exported-small-met)
+pub exported_assembling_small : SmallClaims exported_small_routine
+exported_assembling_small = small_claims exported_small_routine (λ M. exported-small-met)
 
 -- 02: "With buffers of the stated lengths, plan and legs lent alike, result, plan and legs equal the first form's for every book and run"
-pub equal_forms : EqualForms assemble-routine assemble-small-routine
-equal_forms = equal_claims assemble-routine assemble-small-routine (λ M. assemble-met) (λ M. assemble-small-met)
+pub equal_forms : EqualForms assemble_routine assemble_small_routine
+equal_forms = equal_claims assemble_routine assemble_small_routine (λ M. assemble-met) (λ M. assemble-small-met)
 
-pub exported_equal_forms : EqualForms exported-assemble-routine exported-small-routine
-exported_equal_forms = equal_claims exported-assemble-routine exported-small-routine (λ M. exported-assemble-met) (λ M. exported-small-met)
+pub exported_equal_forms : EqualForms exported_assemble_routine exported_small_routine
+exported_equal_forms = equal_claims exported_assemble_routine exported_small_routine (λ M. exported-assemble-met) (λ M. exported-small-met)
 
 -- on paper: demand 3 is a field of these two as well
-pub laying_out : PaperClaims lay-out-routine
-laying_out = paper_claims lay-out-routine (λ M. lay-out-met)
+pub laying_out : PaperClaims lay_out_routine
+laying_out = paper_claims lay_out_routine (λ M. lay-out-met)
 
-pub exported_laying_out : PaperClaims exported-page-routine
-exported_laying_out = paper_claims exported-page-routine (λ M. exported-page-met)
+pub exported_laying_out : PaperClaims exported_page_routine
+exported_laying_out = paper_claims exported_page_routine (λ M. exported-page-met)
 
 -- what assembling gives for a run of i commands is within the forecast for i, for either form of the legs
 pub plans_foreseen : {E : Type 0} {form : LegForm E} {ask : Asked} {i : ℕ} {f : Forecasted} {l : AllLent E} {r : Assembly} {l' : AllLent E}
@@ -361,42 +450,42 @@ pub as_many_units : (b : Book) × AllowedBook b × Forecasts (bytes_of b) 32 (re
 as_many_units = units_reached
 
 -- the ridge repeater: its lookup, its constant table, and its rule's function, which the generator prints
-pub looking_up_ridge : LookupClaims ridge ridge-lookup-routine
-looking_up_ridge = lookup_claims ridge-lookup-routine ridge-works-out (λ M. ridge-lookup-met)
+pub looking_up_ridge : LookupClaims ridge ridge_lookup_routine
+looking_up_ridge = lookup_claims ridge_lookup_routine ridge-works-out (λ M. ridge-lookup-met)
 
-pub exported_looking_up_ridge : LookupClaims ridge exported-ridge-routine
-exported_looking_up_ridge = lookup_claims exported-ridge-routine ridge-works-out (λ M. exported-ridge-met)
+pub exported_looking_up_ridge : LookupClaims ridge exported_ridge_routine
+exported_looking_up_ridge = lookup_claims exported_ridge_routine ridge-works-out (λ M. exported-ridge-met)
 
-pub ridge-table : RidgeTable ridge-table-routine
-ridge-table = ridge_table_claims ridge-table-routine (λ M. ridge-table-met)
+pub ridge-table : RidgeTable ridge_table_routine
+ridge-table = ridge_table_claims ridge_table_routine (λ M. ridge-table-met)
 
-pub ridge_rule_lem : RuleClaims ridge ridge-outcomes-routine
-ridge_rule_lem = rule_claims ridge-outcomes-routine ridge-mask (λ M. ridge-outcomes-met)
+pub ridge_rule_lem : RuleClaims ridge ridge_outcomes_routine
+ridge_rule_lem = rule_claims ridge_outcomes_routine ridge-mask (λ M. ridge-outcomes-met)
 
 -- the portable relay: the same
-pub looking_up_portable : LookupClaims portable portable-lookup-routine
-looking_up_portable = lookup_claims portable-lookup-routine portable-works-out (λ M. portable-lookup-met)
+pub looking_up_portable : LookupClaims portable portable_lookup_routine
+looking_up_portable = lookup_claims portable_lookup_routine portable-works-out (λ M. portable-lookup-met)
 
-pub exported_looking_up_portable : LookupClaims portable exported-portable-routine
-exported_looking_up_portable = lookup_claims exported-portable-routine portable-works-out (λ M. exported-portable-met)
+pub exported_looking_up_portable : LookupClaims portable exported_portable_routine
+exported_looking_up_portable = lookup_claims exported_portable_routine portable-works-out (λ M. exported-portable-met)
 
-pub portable-table : PortableTable portable-table-routine
-portable-table = portable_table_claims portable-table-routine (λ M. portable-table-met)
+pub portable-table : PortableTable portable_table_routine
+portable-table = portable_table_claims portable_table_routine (λ M. portable-table-met)
 
-pub portable_rule_lem : RuleClaims portable portable-outcomes-routine
-portable_rule_lem = rule_claims portable-outcomes-routine portable-mask (λ M. portable-outcomes-met)
+pub portable_rule_lem : RuleClaims portable portable_outcomes_routine
+portable_rule_lem = rule_claims portable_outcomes_routine portable-mask (λ M. portable-outcomes-met)
 
 -- the states that a command visits: 02: "found by counting trailing zeros, which is proved to give the lowest"
 pub trailing_zeros : (w : ℕ) → (w ≡ 0 → ⊥) → w < 2 ^ 64 → LowestState w (count_trailing_zeros 64 w)
 trailing_zeros = trailing_zeros_lowest
 
 -- the routines that apply a command to a set visit those present alone, lowest first
-pub visiting : VisitClaims visit-routine sent-routine
-visiting = visit_claims visit-routine sent-routine (λ M. visit-met) (λ M. sent-met)
+pub visiting : VisitClaims visit_routine sent_routine
+visiting = visit_claims visit_routine sent_routine (λ M. visit-met) (λ M. sent-met)
 
 -- the text that the program prints
-pub printing : ReportClaims report-routine
-printing = report_claims report-routine (λ M. report-met)
+pub printing : ReportClaims report_routine
+printing = report_claims report_routine (λ M. report-met)
 
 -- what lies past the first 31,179 and 302 bytes changes nothing
 pub printing_first : {book run book' run' text : List ℕ} → take 31179 book ≡ take 31179 book' → take 302 run ≡ take 302 run' → Prints book run text
@@ -418,37 +507,37 @@ pub page_undoes : {ask : Asked} {l : AllLent ℕ} {page : List ℕ} {r : Paged} 
 page_undoes = follows.page_undoes
 
 -- the same of the exported routines, whatever they are passed
-pub plans_undo : Always assemble.ended exported-assemble-routine (on_assemble PlanUndoes)
-plans_undo = follows.undoing exported-assemble-routine exported_assembling
+pub plans_undo : Always assemble.ended exported_assemble_routine (on_assemble PlanUndoes)
+plans_undo = follows.undoing exported_assemble_routine exported_assembling
 
-pub plans_undo_legs : Always assemble-legs.ended assemble-legs-routine (on_legs PlanUndoes)
-plans_undo_legs = follows.undoing_legs assemble-legs-routine assembling_legs
+pub plans_undo_legs : Always assemble-legs.ended assemble_legs_routine (on_legs PlanUndoes)
+plans_undo_legs = follows.undoing_legs assemble_legs_routine assembling_legs
 
-pub plans_undo_small : Always assemble-small.ended exported-small-routine (on_small SmallUndoes)
-plans_undo_small = follows.undoing_small exported-small-routine exported_assembling_small
+pub plans_undo_small : Always assemble-small.ended exported_small_routine (on_small SmallUndoes)
+plans_undo_small = follows.undoing_small exported_small_routine exported_assembling_small
 
 -- the item that is found, put behind the book's items, gives an accepted book
-pub found_joins : Always find.ended exported-find-routine (on_find FoundJoins)
-found_joins = follows.found_joins exported-find-routine exported_finding
+pub found_joins : Always find.ended exported_find_routine (on_find FoundJoins)
+found_joins = follows.found_joins exported_find_routine exported_finding
 
 -- with an empty phi or psi there is no reverse, and over 8 forward commands are no item's
-pub no_ends_none : Always find.ended exported-find-routine (on_find (λ book q table r table'. 2048 ≤ length table → (b : Book) → AcceptedBook book b
+pub no_ends_none : Always find.ended exported_find_routine (on_find (λ book q table r table'. 2048 ≤ length table → (b : Book) → AcceptedBook book b
     → MayHold (device_of b) q → (q.phi ≡ 0) ⊎ (q.psi ≡ 0) → r.code ≡ 15))
-no_ends_none = follows.empty-mask exported-find-routine exported_finding
+no_ends_none = follows.empty-mask exported_find_routine exported_finding
 
-pub nine-barred : Always find.ended exported-find-routine (on_find (λ book q table r table'. 2048 ≤ length table → (b : Book) → AcceptedBook book b
+pub nine-barred : Always find.ended exported_find_routine (on_find (λ book q table r table'. 2048 ≤ length table → (b : Book) → AcceptedBook book b
     → 8 < length q.forward → r.code ≡ 14))
-nine-barred = follows.nine-forward exported-find-routine exported_finding
+nine-barred = follows.nine-forward exported_find_routine exported_finding
 
 -- for an item of the book itself, of at most 3 reverse commands, some reverse is found
-pub own_found : Always find.ended exported-find-routine (on_find (λ book q table r table'. 2048 ≤ length table → (b : Book) → AcceptedBook book b
+pub own_found : Always find.ended exported_find_routine (on_find (λ book q table r table'. 2048 ≤ length table → (b : Book) → AcceptedBook book b
     → (i : ℕ) → i < length (items_of b) → let x = item (items_of b) i in length x.reverse ≤ 3 → q ≡ sought x.forward x.phi x.psi → r.code ≡ 0))
-own_found = follows.own_found exported-find-routine exported_finding
+own_found = follows.own_found exported_find_routine exported_finding
 
 -- plan and legs of the two forms of assembling, each compiled routine's, are one function of what is lent
 pub equal_plans : (left : Asked → Room ℕ → Room ℕ)
-    × Always assemble.ended assemble-routine (on_assemble (λ ask l r l'. LongEnough (all_sizes in_bytes l) → l'.room ≡ left ask l.room))
-    × Always assemble-small.ended assemble-small-routine (on_small (λ ask scratch room r scratch' room'. LongEnough (small_sizes scratch room)
+    × Always assemble.ended assemble_routine (on_assemble (λ ask l r l'. LongEnough (all_sizes in_bytes l) → l'.room ≡ left ask l.room))
+    × Always assemble-small.ended assemble_small_routine (on_small (λ ask scratch room r scratch' room'. LongEnough (small_sizes scratch room)
     → room' ≡ left ask room))
 equal_plans = follows.equal_rooms equal_forms
 
@@ -458,17 +547,17 @@ pub scratch_long : {ask : Asked} {scratch : List ℕ} {room : Room ℕ} {r : Ass
 scratch_long = follows.scratch_long
 
 -- by the exported routines Q is read, accepted and foreseen, and what is written is at most 31,178 bytes
-pub q_read_so : Always read.ended exported-read-routine (on_read (λ book l r l'. book ≡ bytes_q → LongEnough (sizes l) → r.code ≡ 0))
-q_read_so = follows.reads_q exported-read-routine exported_reading
+pub q_read_so : Always read.ended exported_read_routine (on_read (λ book l r l'. book ≡ bytes_q → LongEnough (sizes l) → r.code ≡ 0))
+q_read_so = follows.reads_q exported_read_routine exported_reading
 
-pub q_checked_so : Always check.ended exported-check-routine (on_check (λ book l r l'. book ≡ bytes_q → LongEnough (sizes l) → r.code ≡ 0))
-q_checked_so = follows.checks_q exported-check-routine exported_checking
+pub q_checked_so : Always check.ended exported_check_routine (on_check (λ book l r l'. book ≡ bytes_q → LongEnough (sizes l) → r.code ≡ 0))
+q_checked_so = follows.checks_q exported_check_routine exported_checking
 
-pub q_foreseen_so : Always forecast.ended exported-forecast-routine (on_forecast (λ book i r. book ≡ bytes_q → i ≤ 32 → r.code ≡ 0))
-q_foreseen_so = follows.foresees_q exported-forecast-routine exported_forecasting
+pub q_foreseen_so : Always forecast.ended exported_forecast_routine (on_forecast (λ book i r. book ≡ bytes_q → i ≤ 32 → r.code ≡ 0))
+q_foreseen_so = follows.foresees_q exported_forecast_routine exported_forecasting
 
-pub written-most : Always write.ended exported-write-routine (on_write (λ n m items l out r out'. r.code ≡ 0 → r.length ≤ 31178))
-written-most = follows.writes_most exported-write-routine exported_writing
+pub written-most : Always write.ended exported_write_routine (on_write (λ n m items l out r out'. r.code ≡ 0 → r.length ≤ 31178))
+written-most = follows.writes_most exported_write_routine exported_writing
 
 -- no check of a well-formed book makes more than 65,536 units
 pub units_most : {book : List ℕ} {l : Lent} {r : Checking} {l' : Lent} {i : ℕ} {q : Forecasted} → UnitsForeseen book l r l' → Forecasts book i q
@@ -666,35 +755,35 @@ pub edge_printing : report-edges.Edges
 edge_printing = report-edge-cases.edges
 
 -- the same books and runs, of the compiled routines
-pub worked_reading : Always read.ended read-routine (on_read ReadsWorked)
-worked_reading = read_worked read-routine (λ M. read-met)
+pub worked_reading : Always read.ended read_routine (on_read ReadsWorked)
+worked_reading = read_worked read_routine (λ M. read-met)
 
 pub worked_writing : Always write.ended write_routine (on_write WritesWorked)
 worked_writing = write_worked write_routine (λ M. write-met)
 
-pub worked_checking : Always check.ended check-routine (on_check ChecksWorked)
-worked_checking = check_worked check-routine (λ M. check-met)
+pub worked_checking : Always check.ended check_routine (on_check ChecksWorked)
+worked_checking = check_worked check_routine (λ M. check-met)
 
-pub worked_table : Always check-table.ended check-table-routine (on_check_table TableWorked)
-worked_table = table_worked check-table-routine (λ M. check-table-met)
+pub worked_table : Always check-table.ended check_table_routine (on_check_table TableWorked)
+worked_table = table_worked check_table_routine (λ M. check-table-met)
 
-pub worked_forecast : Always forecast.ended forecast-routine (on_forecast ForecastsWorked)
-worked_forecast = forecast_worked forecast-routine (λ M. forecast-met)
+pub worked_forecast : Always forecast.ended forecast_routine (on_forecast ForecastsWorked)
+worked_forecast = forecast_worked forecast_routine (λ M. forecast-met)
 
-pub worked_finding : Always find.ended find-routine (on_find FindsWorked)
-worked_finding = find_worked find-routine (λ M. find-met)
+pub worked_finding : Always find.ended find_routine (on_find FindsWorked)
+worked_finding = find_worked find_routine (λ M. find-met)
 
-pub worked_assembling : Always assemble.ended assemble-routine (on_assemble (AssemblesWorked in_bytes))
-worked_assembling = assemble_worked assemble-routine (λ M. assemble-met)
+pub worked_assembling : Always assemble.ended assemble_routine (on_assemble (AssemblesWorked in_bytes))
+worked_assembling = assemble_worked assemble_routine (λ M. assemble-met)
 
-pub worked_small : Always assemble-small.ended assemble-small-routine (on_small SmallWorked)
-worked_small = small_worked assemble-small-routine (λ M. assemble-small-met)
+pub worked_small : Always assemble-small.ended assemble_small_routine (on_small SmallWorked)
+worked_small = small_worked assemble_small_routine (λ M. assemble-small-met)
 
-pub worked_legs : Always assemble-legs.ended assemble-legs-routine (on_legs (AssemblesWorked in_structs))
-worked_legs = legs_worked assemble-legs-routine (λ M. assemble-legs-met)
+pub worked_legs : Always assemble-legs.ended assemble_legs_routine (on_legs (AssemblesWorked in_structs))
+worked_legs = legs_worked assemble_legs_routine (λ M. assemble-legs-met)
 
-pub worked_paper : Always lay-out.ended lay-out-routine (on_lay_out PaperWorked)
-worked_paper = paper_worked lay-out-routine (λ M. lay-out-met)
+pub worked_paper : Always lay-out.ended lay_out_routine (on_lay_out PaperWorked)
+worked_paper = paper_worked lay_out_routine (λ M. lay-out-met)
 
 -- the program's text for Q5, Q8, Q9 and Q11
 pub printed : Examples

@@ -1,7 +1,6 @@
 -- What is claimed of the public calls: for each call a record of claims about a routine ρ, which proofs/Page gives for the call itself and for the
 -- exported one. A claim speaks of the arguments, the result r and the arguments at exit, marked '. Nothing is asked of the caller.
 use Rattle.std.specs.Prelude.{◌≡◌, Bool, true, ◌↔◌, List, [], ◌∷◌, ◌++◌, ℕ, ◌*◌, ◌/◌, ◌%◌, ◌<◌, ◌≤◌, length, get_or, take}
-use prog.Routine.{Routine}
 use Rattle.base.specs.Sizes.{LongEnough}
 use Rattle.reversal.specs.Device.{Device, entry}
 use Rattle.reversal.specs.Reversal.{Item}
@@ -59,7 +58,7 @@ use Rattle.planner.specs.Structs.{in_structs}
 use Rattle.planner.specs.contracts.rollback_assemble_legs as assemble-legs
 use Rattle.report.specs.Prints.{Reports}
 use Rattle.report.specs.contracts.report as report
-use Rattle.claims.specs.Always.{After, Always}
+use Rattle.claims.specs.Always.{After, Compiled, Always}
 
 -- ---- the shape of each call: P of the arguments, the result and what is at exit
 
@@ -185,7 +184,7 @@ WriteBack n m items l out r out' =
 abbrev pub ReadsZero : Read
 ReadsZero book l r l' = (r.code ≡ 0) ↔ (LongEnough (sizes l) × WellFormed book)
 
-pub record ReadClaims (ρ : Routine) : Type 2 where
+pub record ReadClaims (ρ : Compiled) : Type 2 where
   -- 01: "Reading fills a table .. and slots .."; 02: "Reading also gives 32 weights"; codes 1 to 7 and 13 in their order, and what each leaves behind
   pub says : Always read.ended ρ (on_read Reads)
   pub zero : Always read.ended ρ (on_read ReadsZero)
@@ -209,7 +208,7 @@ pub record UnitsForeseen (book : List ℕ) (l : Lent) (r : Checking) (l' : Lent)
   pub at_most : (i : ℕ) (q : Forecasted) → Forecasts book i q → q.code ≡ 0 → r.units ≤ q.units
   pub none : (r.code ≡ 0 → ⊥) → (r.code ≡ 8 → ⊥) → (r.code ≡ 12 → ⊥) → r.units ≡ 0
 
-pub record CheckClaims (ρ : Routine) : Type 2 where
+pub record CheckClaims (ρ : Compiled) : Type 2 where
   -- 01: "checking a book is reading and 8"; with 02, 8 or 12, and the units made
   pub says : Always check.ended ρ (on_check Checks)
   pub zero : Always check.ended ρ (on_check ChecksZero)
@@ -229,7 +228,7 @@ AsChecking book table r table' =
     → (r ≡ answer_of c) × (table' ≡ l'.table)
 
 -- checking with a table as the only buffer, on which 02's calls that take a book and a table stand
-pub record CheckTableClaims (ρ : Routine) : Type 2 where
+pub record CheckTableClaims (ρ : Compiled) : Type 2 where
   -- 1 straight away and the book's codes with the table untouched; 8 and 12, and 0, with the table read
   pub says : Always check-table.ended ρ (on_check_table TableChecks)
   pub zero : Always check-table.ended ρ (on_check_table TableZero)
@@ -251,7 +250,7 @@ NoneExceeds book i r =
     r.code ≡ 0 → (b : Book) → AllowedBook b → bytes_of b ≡ book → (u : Run) → last u ≡ i → (xs : List ℕ) → Chain (device_of b) u (items_for b) (last u) xs
     → (length (plan_of (items_for b) xs) ≤ r.plan_bytes) × (length xs ≤ r.legs)
 
-pub record ForecastClaims (ρ : Routine) : Type 2 where
+pub record ForecastClaims (ρ : Compiled) : Type 2 where
   -- 02: "A forecast gives, for any well-formed book, with no buffer lent and no command applied, .."; reading's codes, then 9
   pub says : Always forecast.ended ρ (on_forecast Forecasts)
   pub zero : Always forecast.ended ρ (on_forecast ForecastsZero)
@@ -298,7 +297,7 @@ FoundJoins book q table r table' =
     r.code ≡ 0 → (b : Book) → AcceptedBook book b → length (items_of b) < 64
     → let x = item_of q (take r.count r.commands) in AcceptedBook (book ++ frame (item_rec x)) (with_item b x)
 
-pub record FindClaims (ρ : Routine) : Type 2 where
+pub record FindClaims (ρ : Compiled) : Type 2 where
   -- 02: "Given a book, forward commands, phi and psi, find a reverse of at most 3 commands that makes an accepted item": 1, the book's codes, 8 and 12, 14
   -- and 15 in their order, and the table
   pub says : Always find.ended ρ (on_find Finds)
@@ -316,7 +315,7 @@ WritesZero n m items l out r out' = (r.code ≡ 0) ↔ (LongEnough (buffers l ou
 abbrev pub WellWritten : Write
 WellWritten n m items l out r out' = r.code ≡ 0 → WellFormed (take r.length out') × (r.length ≤ 31178)
 
-pub record WriteClaims (ρ : Routine) : Type 2 where
+pub record WriteClaims (ρ : Compiled) : Type 2 where
   -- 01: "Writing takes n, m, an item count .."; its refusals in their order, and what the output holds then
   pub says : Always write.ended ρ (on_write Writes)
   pub zero : Always write.ended ρ (on_write WritesZero)
@@ -332,19 +331,19 @@ abbrev pub SmallUndoes : Small
 SmallUndoes ask scratch room r scratch' room' =
     r.code ≡ 0 → (b : Book) (u : Run) → Given ask b u → Undoes (device_of b) u (take r.commands room'.plan)
 
-pub record AssembleClaims (ρ : Routine) : Type 2 where
+pub record AssembleClaims (ρ : Compiled) : Type 2 where
   -- every code of 01's table, and 02's 12 and 13, in their order, with every buffer as stated for it
   pub says : Always assemble.ended ρ (on_assemble (Assembles in_bytes))
   -- demand 3, whole
   pub demand_three : Always assemble.ended ρ (on_assemble (Demand in_bytes))
 
 -- with leg structs: the same of the structs
-pub record LegsClaims (ρ : Routine) : Type 2 where
+pub record LegsClaims (ρ : Compiled) : Type 2 where
   pub says : Always assemble-legs.ended ρ (on_legs (Assembles in_structs))
   pub demand_three : Always assemble-legs.ended ρ (on_legs (Demand in_structs))
 
 -- with a scratch of 64 masks in place of table, slots and weights
-pub record SmallClaims (ρ : Routine) : Type 2 where
+pub record SmallClaims (ρ : Compiled) : Type 2 where
   -- 02: "the scratch ends free, but untouched on 1", and assembling's codes in their order
   pub says : Always assemble-small.ended ρ (on_small AssemblesSmall)
   pub demand_three : Always assemble-small.ended ρ (on_small SmallDemand)
@@ -352,7 +351,7 @@ pub record SmallClaims (ρ : Routine) : Type 2 where
 -- 02: "With buffers of the stated lengths, plan and legs lent alike, result, plan and legs equal the first form's for every book and run": of the two
 -- routines, ρ of the first form and σ of the small one. What both answer is one function of the book and the run, and what they leave one of these and of
 -- plan and legs as they are lent.
-pub record EqualForms (ρ σ : Routine) : Type 2 where
+pub record EqualForms (ρ σ : Compiled) : Type 2 where
   pub result : Asked → Assembly
   -- plan and legs at exit
   pub left : Asked → Room ℕ → Room ℕ
@@ -370,7 +369,7 @@ AsAssembling ask l page r l' page' =
     LongEnough (page_sizes page) → (q : Assembly) (l'' : AllLent ℕ) → Assembles in_bytes ask l q l'' → (r.assembly ≡ q) × (l' ≡ l'')
 
 -- on paper
-pub record PaperClaims (ρ : Routine) : Type 2 where
+pub record PaperClaims (ρ : Compiled) : Type 2 where
   -- 02: "The call takes and fills what assembling does, and a page buffer ..": the page's layout, and what each refusal leaves behind
   pub says : Always lay-out.ended ρ (on_lay_out Pages)
   pub as_assembling : Always lay-out.ended ρ (on_lay_out AsAssembling)
@@ -380,12 +379,12 @@ pub record PaperClaims (ρ : Routine) : Type 2 where
   pub demand_three : Always lay-out.ended ρ (on_lay_out PageDemand)
 
 -- of each device's lookup
-pub record LookupClaims (d : DeviceRule) (ρ : Routine) : Type 2 where
+pub record LookupClaims (d : DeviceRule) (ρ : Compiled) : Type 2 where
   -- 01: "A lookup with state over 63 or command over 15 returns 5, 0 and mask 0; else 0, 0 and the mask"; 02: "refusing as the ridge lookup does"
   pub says : Always lookup.ended ρ (on_lookup (Looked d))
 
 -- of each rule's function, whose masks the generator prints: the outcomes, for any numbers
-pub record RuleClaims (d : DeviceRule) (ρ : Routine) : Type 2 where
+pub record RuleClaims (d : DeviceRule) (ρ : Compiled) : Type 2 where
   pub says : Always outcomes.ended ρ (on_outcomes (OutcomesOf d))
 
 -- of each device's constant table
@@ -395,22 +394,22 @@ pub record ConstantTable (d : DeviceRule) (not-empty : ℕ) (table : List ℕ) :
   pub generated : (entry w : ℕ) → entry < d.n * d.m → OutcomesOf d (entry / d.m) (entry % d.m) w → get_or table entry 0 ≡ w
 
 -- 01: "The constant table of 1,024 masks equals this rule; 616 aren't empty."
-abbrev pub RidgeTable : Routine → Type 2
+abbrev pub RidgeTable : Compiled → Type 2
 RidgeTable ρ = Always ridge-table.ended ρ (λ κs a r e. ConstantTable ridge 616 r)
 
 -- 02: "its constant table of 384 masks", none of them empty
-abbrev pub PortableTable : Routine → Type 2
+abbrev pub PortableTable : Compiled → Type 2
 PortableTable ρ = Always portable-table.ended ρ (λ κs a r e. ConstantTable portable 384 r)
 
 -- 02, request 4: a command visits the states present alone, lowest first; one that is sent to a set goes no further than the first that is stuck. A
 -- state's outcomes are the table's entry, where a table is lent.
-pub record VisitClaims (ρ σ : Routine) : Type 2 where
+pub record VisitClaims (ρ σ : Compiled) : Type 2 where
   pub outcomes : OutcomesRead
   pub in_table : (book table : List ℕ) (n m s c : ℕ) → outcomes true book table n m s c ≡ entry n m table s c
   pub visits : Always visit.ended ρ (on_visit outcomes (λ d c w r. d.n ≤ 64 → d.m ≤ 32 → VisitsPresent d c w r))
   pub sends : Always sent.ended σ (on_sent outcomes (λ d c w r. d.n ≤ 64 → d.m ≤ 32 → SendsToPresent d c w r))
 
 -- the program's text
-pub record ReportClaims (ρ : Routine) : Type 2 where
+pub record ReportClaims (ρ : Compiled) : Type 2 where
   -- 01: "The program `rollback` judges at most the first 31,111 bytes of book.bin and 302 of run.bin", with 02 31,179; its two lines, in the lent row
   pub says : Always report.ended ρ (on_report Reports)

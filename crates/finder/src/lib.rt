@@ -1,6 +1,7 @@
 // Finding the reverse for an item: of the rows of at most 3 commands that make an accepted item, the shortest, and among equals the one with lower
 // commands first. A row of commands is one number, the first of them its lowest byte.
 #![tactic(auto)]
+
 ghost use Rattle.std.specs.Prelude.{◌≡◌, [], ◌∷◌, ◌++◌, ◌-◌, ◌^◌, ◌≤◌, ◌<◌, eqb, length};
 ghost use Rattle.base.specs.Sets.{NoBitFrom};
 ghost use Rattle.base.specs.Tests.{both};

@@ -1,5 +1,5 @@
 // The calls for C and Rust: the public calls by the names and the order that include/rollback.h has. Each keeps the promise of the call that it passes
-// on to.
+// on to. `planner_c` exports them.
 #![tactic(auto)]
 ghost use Rattle.std.specs.Prelude.{◌≡◌, ◌≤◌, ◌<◌, length};
 ghost use Rattle.std.proofs.lemmas.List.Edits.{sets};
@@ -28,8 +28,7 @@ use paper::Paged;
 use reader::Reading;
 use writer::Writing;
 
-#[unsafe(no_mangle)]
-pub extern "C" fn rollback_read(
+pub fn rollback_read(
     book: &[u8],
     table: &mut [u64],
     slots: &mut [u8],
@@ -41,8 +40,7 @@ pub extern "C" fn rollback_read(
     reader::read(book, table, slots, weights)
 }
 
-#[unsafe(no_mangle)]
-pub extern "C" fn rollback_check(
+pub fn rollback_check(
     book: &[u8],
     table: &mut [u64],
     slots: &mut [u8],
@@ -54,15 +52,13 @@ pub extern "C" fn rollback_check(
     checker::check(book, table, slots, weights)
 }
 
-#[unsafe(no_mangle)]
-pub extern "C" fn rollback_forecast(book: &[u8], i: u64) -> Forecasted
+pub fn rollback_forecast(book: &[u8], i: u64) -> Forecasted
     ensures { ForecastAs book.now i result }
 {
     forecast::forecast(book, i)
 }
 
-#[unsafe(no_mangle)]
-pub extern "C" fn rollback_find(
+pub fn rollback_find(
     book: &[u8],
     forward: &[u8],
     phi: u64,
@@ -74,8 +70,7 @@ pub extern "C" fn rollback_find(
     finder::find(book, forward, phi, psi, table)
 }
 
-#[unsafe(no_mangle)]
-pub extern "C" fn rollback_assemble(
+pub fn rollback_assemble(
     book: &[u8],
     run: &[u8],
     table: &mut [u64],
@@ -91,8 +86,7 @@ pub extern "C" fn rollback_assemble(
     assembly::assemble(book, run, table, slots, weights, plan, legs)
 }
 
-#[unsafe(no_mangle)]
-pub extern "C" fn rollback_assemble_small(
+pub fn rollback_assemble_small(
     book: &[u8],
     run: &[u8],
     scratch: &mut [u64],
@@ -105,8 +99,7 @@ pub extern "C" fn rollback_assemble_small(
     assembly::assemble_small(book, run, scratch, plan, legs)
 }
 
-#[unsafe(no_mangle)]
-pub extern "C" fn rollback_page(
+pub fn rollback_page(
     book: &[u8],
     run: &[u8],
     table: &mut [u64],
@@ -123,8 +116,7 @@ pub extern "C" fn rollback_page(
     paper::lay_out(book, run, table, slots, weights, plan, legs, page)
 }
 
-#[unsafe(no_mangle)]
-pub extern "C" fn rollback_write(
+pub fn rollback_write(
     n: u64,
     m: u64,
     items: u64,
@@ -138,15 +130,13 @@ pub extern "C" fn rollback_write(
     writer::write(n, m, items, table, slots, weights, out)
 }
 
-#[unsafe(no_mangle)]
-pub extern "C" fn rollback_ridge(state: u64, command: u64) -> LookupResult
+pub fn rollback_ridge(state: u64, command: u64) -> LookupResult
     ensures { result ≡ ridge_lookup state command }
 {
     ridge::lookup(state, command)
 }
 
-#[unsafe(no_mangle)]
-pub extern "C" fn rollback_portable(state: u64, command: u64) -> LookupResult
+pub fn rollback_portable(state: u64, command: u64) -> LookupResult
     ensures { result ≡ portable_lookup state command }
 {
     portable::lookup(state, command)
@@ -162,7 +152,7 @@ pub struct Leg {
 }
 
 // An answer with its legs as bytes, and the number of legs to write.
-#[derive(Drop)]
+#[derive(Clone, Copy)]
 struct Whole {
     result: Assembly,
     bytes: [u8; assembly::LEGS_LEN],
@@ -231,8 +221,7 @@ fn fill_legs(legs: &mut [Leg], w: Whole)
 }
 
 // Assembling with the legs as structs: at least 32 are lent, and those past the count keep what they held.
-#[unsafe(no_mangle)]
-pub extern "C" fn rollback_assemble_legs(
+pub fn rollback_assemble_legs(
     book: &[u8],
     run: &[u8],
     table: &mut [u64],

@@ -11,39 +11,39 @@ use Rattle.finder.proofs.Kept.{Leading, lead_start, lead_next, lead_all}
 use Rattle.finder.proofs.ends_of.Statement.{statement}
 use Rattle.finder.proofs.ends_of.Tie as tie
 
-abbrev invariant-loop : tie.invariant-loop
+abbrev invariant-loop : tie.invariant-loop-j
 invariant-loop start forward phi book table n m ends₀ j₀ j-end ends j = (j ≤ length forward) × Leading (tabled n m table) start forward ends.mask j
 
-abbrev decreases-loop : tie.decreases-loop
+abbrev decreases-loop : tie.decreases-loop-j
 decreases-loop start forward phi book table n m ends₀ j₀ j-end ends j = length forward - j
 
 of-requires : tie.Need-of-requires invariant-loop decreases-loop
 of-requires c κs = search rules
 
-add-requires : tie.Need-add-requires invariant-loop decreases-loop
+add-requires : tie.Need-add-ends-requires invariant-loop decreases-loop
 add-requires c κs = search rules
 
-loop-holds : tie.Need-loop-init invariant-loop decreases-loop
-loop-holds c = (omega arith, lead_start _ _ _ _ _ (omega arith) c.before.of.ensures c.add.ensures)
+loop-holds : tie.Need-loop-j-init invariant-loop decreases-loop
+loop-holds c = (omega arith, lead_start _ _ _ _ _ (omega arith) c.before.of.ensures c.add-ends.ensures)
 
-byte-at-requires : tie.Need-byte-at-requires invariant-loop decreases-loop
+byte-at-requires : tie.Need-byte_at-requires invariant-loop decreases-loop
 byte-at-requires c κs = search rules
 
-after-requires : tie.Need-after-requires invariant-loop decreases-loop
+after-requires : tie.Need-after-ends-requires invariant-loop decreases-loop
 after-requires c κs = search rules
 
-add-j : tie.Need-overflow-add-j invariant-loop decreases-loop
+add-j : tie.Need-overflow_step-j invariant-loop decreases-loop
 add-j c = omega arith
 
-loop-less : tie.Need-loop-smaller invariant-loop decreases-loop
+loop-less : tie.Need-loop-j-smaller invariant-loop decreases-loop
 loop-less c = omega arith
 
-loop-again : tie.Need-loop-preserved invariant-loop decreases-loop
+loop-again : tie.Need-loop-j-preserved invariant-loop decreases-loop
 loop-again c =
     let b = c.before in
     let l = b.before.before in (
       omega arith,
-      lead_next _ _ _ _ _ _ _ (omega arith) (omega arith) (omega arith) b.byte_at.ensures.0 l.loop.invariant.1 (mask_of c.after.ensures),
+      lead_next _ _ _ _ _ _ _ (omega arith) (omega arith) (omega arith) b.byte_at.ensures.0 l.loop-j.invariant.1 (mask_of c.after-ends.ensures),
     )
 
 within-requires : tie.Need-within-requires invariant-loop decreases-loop
@@ -53,10 +53,10 @@ returns : tie.Need-returns invariant-loop decreases-loop
 returns c =
     let l = c.before.before in
     let a = l.before.before.before.before.before.before in
-    let done : length a.args.forward.now ≤ l.loop.j = omega arith in
+    let done : length a.args.forward.now ≤ l.loop-j.j = omega arith in
     c.within.ensures
-    ∙ ap set_of (lead_all (tabled a.args.n a.args.m a.args.table.now) a.args.start a.args.forward.now _ _ _ a.args.phi done l.loop.invariant.1 refl)
+    ∙ ap set_of (lead_all (tabled a.args.n a.args.m a.args.table.now) a.args.start a.args.forward.now _ _ _ a.args.phi done l.loop-j.invariant.1 refl)
 
-pub ends-of-spec : {M : Type 1} → statement M
-ends-of-spec =
+pub ends_of_spec : {M : Type 1} → statement M
+ends_of_spec =
     tie.close (tie.spec invariant-loop decreases-loop of-requires add-requires loop-holds byte-at-requires after-requires add-j loop-less loop-again within-requires returns)

@@ -1,18 +1,18 @@
 #!/bin/sh
 # The tests from outside, with no part of the gate: check.sh [CALLS]
 # The headers and each field of each result under every standard that gcc and clang have; the archive's names; local
-# arrays with little memory; the constant tables against the generator, where rt check tables has built it; the program
-# without standard input, where rt check rollback has built it; every call between guard pages and, where valgrind is
-# present, under it, CALLS times each (100,000); the stack that rollback.h states; the C and the Rust example on the
-# same inputs, as a plan, as a plan with little memory and as a page, and those that find a reverse; README's example
-# and docs/FORMAT.md's bytes, page and answers of finding. Its last line says it all.
+# arrays with little memory; the constant tables against the generator, where rt run has built it in crates/tables; the
+# program without standard input, where rt run has built it in crates/rollback; every call between guard pages and, where
+# valgrind is present, under it, CALLS times each (100,000); the stack that rollback.h states; the C and the Rust example
+# on the same inputs, as a plan, as a plan with little memory and as a page, and those that find a reverse; README's
+# example and docs/FORMAT.md's bytes, page and answers of finding. Its last line says it all.
 set -eu
 cd "$(dirname "$0")/.."
 calls=${1:-100000}
 archive=target/staticlib/libplanner.a
 cases=crates/case_vectors/data/cases.bin
 data=crates/rollback/data
-[ -r "$archive" ] || { echo "no $archive: rt staticlib planner writes it" >&2; exit 2; }
+[ -r "$archive" ] || { echo "no $archive: c/archive.sh writes it" >&2; exit 2; }
 strict='-Wall -Wextra -Wpedantic -Wconversion -Werror'
 work=$(mktemp -d)
 part=start
@@ -77,11 +77,11 @@ c/demands.sh
 say 'each field of the claims beside a sentence'
 
 part='constant tables'
-if [ -x target/bin/tables ]; then
+if [ -x crates/tables/out/tables ]; then
     crates/tables/make.sh --check
     say 'constant tables as generated'
 else
-    say 'no target/bin/tables'
+    say 'no crates/tables/out/tables'
 fi
 
 part='local arrays'
@@ -90,13 +90,13 @@ say 'local arrays of 64 at most'
 
 # Its files then have the number 0.
 part='the program without standard input'
-if [ -x target/bin/rollback ]; then
-    program=$PWD/target/bin/rollback
+if [ -x crates/rollback/out/rollback ]; then
+    program=$PWD/crates/rollback/out/rollback
     (cd $data && "$program" <&-) >"$work/out"
     printf '0 0 1 1\n0\n' | cmp - "$work/out"
     say 'the program without standard input'
 else
-    say 'no target/bin/rollback'
+    say 'no crates/rollback/out/rollback'
 fi
 
 part='build'

@@ -14,7 +14,7 @@ awk -v claims="$claims" -v page="$page" '
         status = 1
     }
     # The records of claims about routines, and their fields.
-    FILENAME == claims && /^pub record [A-Za-z]+ .*Routine\)/ { record = $3; next }
+    FILENAME == claims && /^pub record [A-Za-z]+ .*Compiled\)/ { record = $3; next }
     FILENAME == claims && /^[^ ]/ { record = "" }
     FILENAME == claims && record != "" && /^  pub [^ ]+ :/ { field[record, $2] = 0; next }
     # The claims on the page, with the record that each one is of.
@@ -22,7 +22,7 @@ awk -v claims="$claims" -v page="$page" '
     FILENAME == claims || FILENAME == page { next }
     {
         rest = $0
-        while (match(rest, /`[a-z-]+`( \.[a-z-]+,?)+/)) {
+        while (match(rest, /`[a-z_-]+`( \.[a-z_-]+,?)+/)) {
             cited = substr(rest, RSTART, RLENGTH)
             rest = substr(rest, RSTART + RLENGTH)
             count = split(cited, word, /[ ,`]+/)

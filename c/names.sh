@@ -2,8 +2,10 @@
 # Holds the names that an archive exports to those of rollback.h, and the page of claims to these names:
 # names.sh [ARCHIVE [PAGE]]
 # On the page each exported call has a claim about its own routine, the one of planner by that name, and no claim
-# that is called exported-.. is about another routine. Status 1 if one of these is not so. Then lists what the
-# archive needs from elsewhere.
+# that is called exported_.. is about another routine. The archive is made of planner_c, on which no crate can stand:
+# each function there has the parameters, the result and the clauses of planner's, its words are brought in from where
+# planner has them, and it only passes its arguments on to planner's. Status 1 if one of these is not so. Then lists
+# what the archive needs from elsewhere.
 set -eu
 archive=${1:-target/staticlib/libplanner.a}
 page=${2:-$(dirname "$0")/../crates/claims/proofs/Page.antt}
@@ -18,7 +20,7 @@ rollback_portable
 rollback_read
 rollback_ridge
 rollback_write'
-[ -r "$archive" ] || { echo "no $archive: rt staticlib planner writes it" >&2; exit 2; }
+[ -r "$archive" ] || { echo "no $archive: c/archive.sh writes it" >&2; exit 2; }
 [ -r "$page" ] || { echo "no $page" >&2; exit 2; }
 exported=$(nm -P -g --defined-only "$archive" | awk 'NF > 1 { print $1 }' | LC_ALL=C sort)
 if [ "$exported" != "$expected" ]; then
@@ -27,8 +29,8 @@ if [ "$exported" != "$expected" ]; then
 fi
 printf 'exports exactly these eleven:\n%s\n' "$exported"
 
-# The claims of exported calls are those called exported-.. and assembling-legs, a call that no crate below planner
-# has. A statement is what stands between a claim's name and the next line that begins at the left.
+# The claims of exported calls are those called exported_.. and assembling_legs, a call that no crate below planner
+# has. A routine is a name and code of one symbol. A statement is what stands between a claim's name and the next line that begins at the left.
 awk -v exported="$exported" '
     function wrong(what) {
         print "c/names.sh: " FILENAME ": " what
@@ -38,7 +40,7 @@ awk -v exported="$exported" '
     function judge(    word, count, i, about) {
         count = split(statement, word, /[^-A-Za-z0-9_]+/)
         for (i = 1; i <= count; i++) {
-            if (word[i] !~ /-routine$/)
+            if (word[i] !~ /_routine$/)
                 continue
             about++
             if (!(word[i] in call_of))
@@ -55,24 +57,33 @@ awk -v exported="$exported" '
         for (i = 1; i <= count; i++)
             is_exported[call[i]] = 1
     }
-    /^use .*\{.*routine as / {
-        routine = $0
-        sub(/.*routine as /, "", routine)
-        sub(/[,}].*/, "", routine)
-        if (routine in taken)
-            wrong(routine " stands for two routines")
-        taken[routine] = 1
-        if ($2 ~ /^Rattle·planner\.proofs\.rollback_[a-z_]*\.Symbol\./) {
+    /^use .*\.Symbol as / {
+        symbol = $4
+        if (symbol in taken)
+            wrong(symbol " stands for two symbols")
+        taken[symbol] = 1
+        if ($2 ~ /^Rattle\.planner\.proofs\.rollback_[a-z_]*\.Symbol$/) {
             name = $2
-            sub(/^Rattle·planner\.proofs\./, "", name)
+            sub(/^Rattle\.planner\.proofs\./, "", name)
             sub(/\..*/, "", name)
             if (name in is_exported)
-                call_of[routine] = name
+                named_by[symbol] = name
         }
+    }
+    /^[a-z_]+_routine = / {
+        if ($1 in defined)
+            wrong($1 " stands for two routines")
+        defined[$1] = 1
+        symbol = $7
+        sub(/\.name;$/, "", symbol)
+        if ($0 != $1 " = record { name = " symbol ".name; code = " symbol ".code }")
+            wrong($1 " is not the name and the code of one symbol")
+        else if (symbol in named_by)
+            call_of[$1] = named_by[symbol]
     }
     claim != "" && /^[^ ]/ { judge() }
     claim != "" { statement = statement " " $0 }
-    /^pub (exported-[^ ]*|assembling-legs) : / {
+    /^pub (exported_[^ ]*|assembling_legs) : / {
         claim = $2
         statement = $0
         sub(/^pub [^ ]* : /, "", statement)
@@ -87,5 +98,75 @@ awk -v exported="$exported" '
     }
 ' "$page"
 printf 'each has claims about its own routine (%s)\n' "${page##*/}"
+
+# planner's functions, then planner_c's: each as one line, from its name to its body.
+crates=$(dirname "$0")/../crates
+awk -v exported="$exported" '
+    function wrong(what) {
+        print "c/names.sh: " FILENAME ": " what
+        status = 1
+    }
+    # The words that a ghost use line brings in, each with where it stands.
+    /^ghost use / {
+        if ($0 !~ /^ghost use [A-Za-z_.]+\.\{[^{}]*\};$/ || / as /)
+            wrong("can not be read: " $0)
+        from = $3
+        sub(/\{.*/, "", from)
+        count = split(substr($0, index($0, "{") + 1), word, /[ ,};]+/)
+        for (i = 1; i <= count; i++) {
+            if (word[i] == "")
+                continue
+            if (FILENAME !~ /planner_c/)
+                brought[from word[i]] = 1
+            else if (!((from word[i]) in brought))
+                wrong(from word[i] " is not what planner brings in")
+        }
+    }
+    /^pub (extern "C" )?fn / {
+        sub(/^pub (extern "C" )?fn /, "")
+        name = $0
+        sub(/\(.*/, "", name)
+        text = ""
+        part = "head"
+    }
+    part == "head" && /^\{/ {
+        head = text
+        text = ""
+        part = "body"
+        next
+    }
+    part == "body" && /^\}/ {
+        part = ""
+        gsub(/^ +/, "", text)
+        if (FILENAME !~ /planner_c/) {
+            head_of[name] = head
+            next
+        }
+        passed[name] = 1
+        if (!(name in head_of) || head != head_of[name])
+            wrong(name " has other parameters, another result or other clauses than planner has")
+        # The names of the parameters, in their order.
+        sub(/^[^(]*\(/, "", head)
+        sub(/\) -> .*/, "", head)
+        gsub(/: [^,]*/, "", head)
+        gsub(/ /, "", head)
+        sub(/,$/, "", head)
+        gsub(/,/, ", ", head)
+        if (text != "planner::" name "(" head ")")
+            wrong(name " does not only pass its arguments on to planner")
+    }
+    part != "" {
+        gsub(/^ +/, " ")
+        text = text $0
+    }
+    END {
+        count = split(exported, call, "\n")
+        for (i = 1; i <= count; i++)
+            if (!(call[i] in passed))
+                wrong(call[i] " is not there")
+        exit status
+    }
+' "$crates/planner/src/lib.rt" "$crates/planner_c/src/lib.rt"
+printf 'each passes on to the function of planner by its name, with the same clauses\n'
 printf 'needs:\n'
 nm -P -g --undefined-only "$archive" | awk 'NF > 1 { print $1 }' | LC_ALL=C sort -u

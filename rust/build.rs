@@ -1,4 +1,4 @@
-//! Finds libplanner.a in the folder that `ROLLBACK_LIB` names, or where `rt staticlib planner` puts it.
+//! Finds libplanner.a in the folder that `ROLLBACK_LIB` names, or where `c/archive.sh` puts it.
 
 use std::env;
 use std::path::PathBuf;
@@ -13,7 +13,7 @@ fn main() {
     println!("cargo:rerun-if-changed={}", archive.display());
     if !archive.is_file() {
         eprintln!("{} is missing.", archive.display());
-        eprintln!("Run `rt staticlib planner` in the repository's root,");
+        eprintln!("Run `c/archive.sh` in the repository's root,");
         eprintln!("or set ROLLBACK_LIB to the archive's folder.");
         std::process::exit(1);
     }

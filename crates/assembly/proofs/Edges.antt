@@ -2,7 +2,7 @@
 -- 02 say of assembling leaves no other answer. Assumes nothing.
 use mathlib.Core.Path.{◌≡◌, refl, sym, ap, ◌∙◌, subst}
 use mathlib.Core.Bool.{true}
-use mathlib.Core.List.{List, [], ◌∷◌, ◌++◌}
+use mathlib.Core.List.{List, [], ◌∷◌}
 use Prim.Native.Nat.{ℕ, suc, ◌*◌, ◌<◌}
 use native.Mathlib.Omega.{arith}
 use lib.Dec.{lit<, lit≤}
@@ -34,7 +34,7 @@ use Rattle.book.specs.Book.{Book, device_of, items_for, outcome_of, frame, two_b
 use Rattle.book.specs.Limits.{all_below}
 use Rattle.book.specs.Lent.{Lent, lent}
 use Rattle.book.specs.Refusal.{Refusal}
-use Rattle.book.specs.Example.{book_q, bytes_q}
+use Rattle.book.specs.Example.{book_q}
 use Rattle.book.specs.Further.{book_p, bytes_p, book_phi, bytes_phi, book_psi, bytes_psi, book_tie, bytes_tie, book_long, bytes_long}
 use Rattle.book.proofs.Fields.{all_on}
 use Rattle.book.proofs.Device.{device_proper}
@@ -62,7 +62,7 @@ use Rattle.assembly.specs.Small.{small_sizes, AssemblesSmall}
 use Rattle.assembly.specs.Small as small
 use Rattle.assembly.specs.Demand.{Given}
 use Rattle.assembly.specs.Cases.{BytesGive}
-use Rattle.assembly.specs.Edges.{RoomStated, AllStated, RoomShorter, plan_255, legs_fewer, AnyShorter, to_read, to_write, Gives, Keeps, KeepsAll, Edges, ScratchStated, ScratchShorter, scratch_63, room_shorter, SmallEdges}
+use Rattle.assembly.specs.Edges.{AllStated, plan_255, legs_fewer, AnyShorter, to_read, to_write, Gives, Keeps, KeepsAll, Edges, ScratchStated, ScratchShorter, scratch_63, room_shorter, SmallEdges}
 use Rattle.assembly.proofs.Unique.{assembles_unique, left_at}
 use Rattle.assembly.proofs.Cases.{give, runs}
 

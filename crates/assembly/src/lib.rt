@@ -1,5 +1,6 @@
 // Assembling a roll-back plan for a run from the items of a book.
 #![tactic(auto)]
+
 ghost use Rattle.std.specs.Prelude.{◌≡◌};
 ghost use Rattle.book.specs.Lent.{lent};
 ghost use Rattle.states.specs.StateSets.{device_in};

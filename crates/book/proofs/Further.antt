@@ -1,6 +1,5 @@
 -- The further worked books: their bytes, read as themselves; and the device P. Assumes nothing.
 use mathlib.Core.Path.{◌≡◌, refl, sym}
-use mathlib.Core.List.{List, [], ◌∷◌}
 use Prim.Native.Nat.{ℕ, ◌<◌}
 use native.Mathlib.Omega.{arith}
 use Rattle.base.specs.Tests.{pick, both}
@@ -10,7 +9,7 @@ use Rattle.base.specs.Tables.{every, by_rule}
 use Rattle.base.proofs.Tables.{rule_at}
 use Rattle.reversal.specs.Slips.{P}
 use Rattle.octets.specs.Le.{bytes_le}
-use Rattle.book.specs.Book.{outcome_of, device_of, AllowedBook, frame, two_bytes, all_one, weights_recs, bytes_of}
+use Rattle.book.specs.Book.{outcome_of, device_of, AllowedBook, frame, two_bytes, all_one, weights_recs}
 use Rattle.book.specs.Parse.{cut_after, kind_of, weights_of, move_of, item_of, step, scan, weights_in, moves_in, items_in, parse}
 use Rattle.book.specs.Limits.{device_fine, weight_fine, weights_fine, move_fine, counts_fine, all_below, fields_fine}
 use Rattle.book.specs.Parse.Parsed.{Ok}

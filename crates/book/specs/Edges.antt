@@ -1,10 +1,10 @@
 -- Worked cases at both sides of the limits of a book's bytes (01, "States, commands, sets" and "The book's bytes"; 02, request 5), with literal numbers:
 -- well-formed at each limit, refused one beyond it. Assumes nothing: these are definitions.
-use Rattle.std.specs.Prelude.{List, [], ◌∷◌, ◌++◌, ℕ, take, replicate}
+use Rattle.std.specs.Prelude.{List, [], ◌∷◌, ◌++◌, ℕ, replicate}
 use Rattle.reversal.specs.Twelve.{made}
 use Rattle.book.specs.Book.{move_rec, item_rec, frame, WellFormed, bytes_of}
 use Rattle.book.specs.Refusal.{Refusal}
-use Rattle.book.specs.Example.{move, bytes_q, many, after_device}
+use Rattle.book.specs.Example.{move, many, after_device}
 
 -- a book of a device alone: "n, m, one byte each"
 abbrev pub device_alone : ℕ → ℕ → List ℕ

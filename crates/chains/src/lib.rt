@@ -1,5 +1,6 @@
 // The chain from a point down, written as a plan and legs. The call takes any bytes and numbers; its promise speaks of chains that can be walked.
 #![tactic(auto)]
+
 ghost use Rattle.std.specs.Prelude.{◌≡◌, ◌<◌, ◌≤◌};
 ghost use Rattle.std.proofs.lemmas.List.Edits.{sets};
 ghost use Rattle.points.specs.Items.{recorded};

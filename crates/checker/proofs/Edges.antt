@@ -28,7 +28,7 @@ use Rattle.book.proofs.Reading.{parse-fine}
 use Rattle.book.proofs.Example.{spoilt}
 use Rattle.book.proofs.Further.{parse-bytes_p, parse-bytes_phi, parse-bytes_psi, parse-bytes_tie, parse-bytes_long}
 use Rattle.reader.specs.declared.Reading.{Reading}
-use Rattle.reader.specs.Reads.{refusal, done, Reads, faulty, fine as read-fine}
+use Rattle.reader.specs.Reads.{refusal, done, faulty, fine as read-fine}
 use Rattle.reader.specs.Edges.{Stated, OneShorter, UnevenRead}
 use Rattle.reader.proofs.Edges as read-edges
 use Rattle.checker.specs.declared.Checking.{Checking}

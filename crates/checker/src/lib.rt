@@ -1,5 +1,6 @@
 // Checking a book: reading it, and judging its items one by one, with the units that this takes.
 #![tactic(auto)]
+
 ghost use Rattle.std.specs.Prelude.{◌≡◌, ◌≤◌};
 ghost use Rattle.octets.specs.Le.{bytes_le};
 ghost use Rattle.states.specs.StateSets.{device_in};

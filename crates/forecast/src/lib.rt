@@ -1,5 +1,6 @@
 // How much checking a book will take, and how long plans may be, with no buffer lent and no command applied.
 #![tactic(auto)]
+
 ghost use Rattle.std.specs.Prelude.{◌≡◌};
 ghost use Rattle.forecast.specs.Forecasts.{refusal};
 ghost use Rattle.forecast.specs.Contract.{ForecastAs};

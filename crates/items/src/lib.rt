@@ -2,6 +2,7 @@
 // hold. This is the one module that knows the layout of these records for reading them. Every call takes any bytes; its promise speaks of every
 // allowed book whose bytes these are.
 #![tactic(auto)]
+
 ghost use Rattle.std.specs.Prelude.{◌≡◌, ◌+◌, ◌<◌, ◌≤◌, length};
 ghost use Rattle.octets.specs.Parts.{le_at};
 ghost use Rattle.items.specs.Items.{WeightAt, FirstMove, held_in, PartsAt, FirstItem, Placed};

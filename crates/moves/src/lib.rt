@@ -4,6 +4,7 @@
 // A row has in its lowest 16 bits the place of the outcome mask of the state's first move, and from bit 16 on the set of its moves' commands: bit
 // 16 + c is 1 where the state has a move for command c.
 #![tactic(auto)]
+
 ghost use Rattle.std.specs.Prelude.{◌≡◌, ◌+◌, ◌<◌, ◌≤◌, min, length};
 ghost use Rattle.base.specs.Cardinality.{cardinality};
 ghost use Rattle.book.specs.Buffers.{zeroed};

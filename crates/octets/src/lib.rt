@@ -1,6 +1,7 @@
 // Numbers as bytes: read from a lent row, and written into one; 16-bit numbers, read from one. Every function takes any numbers: past a row's end
 // there are zeros, and nothing is stored.
 #![tactic(auto)]
+
 ghost use Rattle.std.specs.Prelude.{◌≡◌, ◌+◌, ◌<◌, ◌≤◌, leb, length, get_or, replicate};
 ghost use Rattle.std.proofs.lemmas.List.Edits.{sets};
 ghost use Rattle.octets.specs.Le.{bytes_le};

@@ -1,5 +1,6 @@
 // A plan on paper: assembling, with the legs laid out as lines of text in a lent page.
 #![tactic(auto)]
+
 ghost use Rattle.std.specs.Prelude.{◌≡◌, [], ◌∷◌, ◌+◌, ◌^◌, ◌<◌, ◌≤◌, min, length, take, drop, replicate};
 ghost use Rattle.book.specs.Lent.{lent};
 ghost use Rattle.assembly.specs.Asked.{asked};

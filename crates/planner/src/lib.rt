@@ -1,6 +1,7 @@
 // The calls for C and Rust: the public calls by the names and the order that include/rollback.h has. Each keeps the promise of the call that it passes
 // on to. `planner_c` exports them.
 #![tactic(auto)]
+
 ghost use Rattle.std.specs.Prelude.{◌≡◌, ◌≤◌, ◌<◌, length};
 ghost use Rattle.std.proofs.lemmas.List.Edits.{sets};
 ghost use Rattle.book.specs.Lent.{lent};
@@ -58,13 +59,7 @@ pub fn rollback_forecast(book: &[u8], i: u64) -> Forecasted
     forecast::forecast(book, i)
 }
 
-pub fn rollback_find(
-    book: &[u8],
-    forward: &[u8],
-    phi: u64,
-    psi: u64,
-    table: &mut [u64],
-) -> Found
+pub fn rollback_find(book: &[u8], forward: &[u8], phi: u64, psi: u64, table: &mut [u64]) -> Found
     ensures { FindAs book.now (sought forward.now phi psi) table.old result table.new }
 {
     finder::find(book, forward, phi, psi, table)

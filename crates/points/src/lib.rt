@@ -1,6 +1,7 @@
 // The points of a run: the possible states at each (module beliefs), the least sum of weights, and the item that begins a chain with that sum. Every
 // call takes any bytes and numbers; its promise speaks of those within the limits of books and runs.
 #![tactic(auto)]
+
 pub mod beliefs;
 
 ghost use Rattle.std.specs.Prelude.{◌≡◌, true, ℕ, ◌+◌, ◌≤◌, ◌<◌, length, get_or};

@@ -1,5 +1,6 @@
 // Reading a book into a lent table, lent slots and lent weights.
 #![tactic(auto)]
+
 mod fill;
 mod passing;
 mod scan;

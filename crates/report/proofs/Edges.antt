@@ -1,12 +1,10 @@
 -- What the program prints at both sides of its limits and for each code: by the cases of assembling. Assumes nothing.
-use mathlib.Core.Path.{◌≡◌, refl, sym, ap, ◌∙◌, subst, subst₂}
+use mathlib.Core.Path.{◌≡◌, refl, ap, ◌∙◌, subst}
 use mathlib.Core.Bool.{true}
-use mathlib.Core.List.{List, [], ◌∷◌}
-use Prim.Native.Nat.{ℕ, ◌≤◌}
+use mathlib.Core.List.{List, []}
+use Prim.Native.Nat.{ℕ}
 use native.Mathlib.Omega.{arith}
 use lib.ListN.{length, take, replicate, length-replicate}
-use lib.Seq.{take_all}
-use Rattle.base.specs.Lists.{Bytes}
 use Rattle.base.specs.Tests.{pick, both}
 use Rattle.base.specs.Compare.{less, at_most, same, differ}
 use Rattle.octets.specs.Le.{bytes_le}
@@ -18,13 +16,12 @@ use Rattle.book.specs.Refusal.{Refusal}
 use Rattle.book.proofs.Fields.{all_on}
 use Rattle.book.proofs.Example.{spoilt, spoilt_by}
 use Rattle.reader.specs.Reads.{faulty}
-use Rattle.reader.specs.Edges.{Stated}
 use Rattle.reader.proofs.Edges.{stated-long}
 use Rattle.checker.specs.Checks.{unread}
 use Rattle.runs.specs.RunBytes.{masks_bytes, run_bytes}
 use Rattle.assembly.specs.Asked.{asked}
 use Rattle.assembly.specs.declared.Assembly.{Assembly}
-use Rattle.assembly.specs.Lent.{in_bytes, Room, AllLent}
+use Rattle.assembly.specs.Lent.{in_bytes, AllLent}
 use Rattle.assembly.specs.Assembles.{refusal, Assembles, unaccepted}
 use Rattle.assembly.specs.Edges.{AllStated, Gives, Keeps, Edges as Cases}
 use Rattle.assembly.proofs.Exactly.{even-bytes, assembles}

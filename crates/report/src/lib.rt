@@ -1,5 +1,6 @@
 // What the program prints for a book and a run, written into a lent row.
 #![tactic(auto)]
+
 ghost use Rattle.std.specs.Prelude.{◌≡◌, min, length};
 ghost use Rattle.report.specs.Contract.{ReportAs};
 

@@ -1,6 +1,7 @@
 // The items in lent slots: 34 bytes each, with k, r, eight forward and eight reverse commands, phi and psi. This module alone knows their places
 // there. Every call takes any bytes and any slot's number; past the end there are zeros, and nothing is stored.
 #![tactic(auto)]
+
 ghost use Rattle.std.specs.Prelude.{◌≡◌, true, ℕ, ◌+◌, ◌≤◌, ◌<◌, length, get_or};
 ghost use Rattle.std.proofs.lemmas.List.Edits.{sets};
 ghost use Rattle.octets.specs.Le.{bytes_le};

@@ -1,13 +1,11 @@
 -- The states present, lowest first, are those that `visit` and `sent` go through. Assumes nothing.
-use mathlib.Core.Path.{◌≡◌, refl, sym, ap, ◌∙◌, subst}
-use mathlib.Core.Bool.{Bool, true, false, not, ◌&&◌}
+use mathlib.Core.Path.{◌≡◌, refl, sym, ap, ◌∙◌}
+use mathlib.Core.Bool.{Bool, true, false}
 use mathlib.Core.List.{List, [], ◌∷◌, foldl}
 use Prim.Native.Nat.{ℕ, ◌≤◌}
 use lib.Bits.{bit_or}
 use lib.Dec.{eqb}
-use lib.ListN.{length}
 use Rattle.base.specs.Tests.{pick}
-use Rattle.base.specs.Cardinality.{present}
 use Rattle.base.specs.Present.{Present}
 use Rattle.base.proofs.Present.{present-is, present_unique}
 use Rattle.reversal.specs.Device.{Device}

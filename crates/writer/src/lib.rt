@@ -1,5 +1,6 @@
 // Writing: the book that a table, slots and weights hold (01, "Writing"; 02, request 5). All is judged first; then one pass writes.
 #![tactic(auto)]
+
 mod checks;
 mod records;
 

@@ -18,15 +18,6 @@ use Rattle.assembly.proofs.WaysOfAssemble as ways
 use Rattle.assembly.proofs.WaysOfAssemble.{FineRun, NumbersKnown}
 use Rattle.assembly.proofs.planned.Statement.{statement}
 use Rattle.assembly.proofs.planned.Tie as tie
-use Rattle.assembly.proofs.planned.Reads as reads
-use Rattle.assembly.proofs.planned.Lts as lts
-use Rattle.points.proofs.beliefs.beliefs.Reads as beliefs-reads
-use Rattle.chains.proofs.write_chain.Reads as write-chain-reads
-use Rattle.points.proofs.points_of.Reads as points-of-reads
-use Rattle.assembly.proofs.refused.Reads as refused-reads
-use Rattle.items.proofs.places.Reads as places-reads
-use Rattle.runs.proofs.last_point.Reads as last-point-reads
-use Rattle.runs.proofs.run_fine.Reads as run-fine-reads
 
 -- ---- places: at entry, with the run fine, with some state possible, with the numbers known
 abbrev start : tie.After-run_fine → tie.Start

@@ -3,9 +3,6 @@ use Rattle.chains.proofs.ChainWritten.{leg-stored}
 use borrow.Author.Rules.{rules}
 use Rattle.chains.proofs.put_leg.Statement.{statement}
 use Rattle.chains.proofs.put_leg.Tie as tie
-use Rattle.chains.proofs.put_leg.Reads as reads
-use Rattle.chains.proofs.put_leg.Lts as lts
-use Rattle.octets.proofs.put_le.Reads as put-le-reads
 
 put-le-requires : tie.Need-put_le-requires
 put-le-requires c κs = search rules

@@ -14,14 +14,6 @@ use Rattle.points.proofs.ItemsRead.{item-read, k-read, r_read}
 use Rattle.chains.proofs.ChainWritten.{Going, going_start, going_next, going_done}
 use Rattle.chains.proofs.write_chain.Statement.{statement}
 use Rattle.chains.proofs.write_chain.Tie as tie
-use Rattle.chains.proofs.write_chain.Reads as reads
-use Rattle.chains.proofs.write_chain.Lts as lts
-use Rattle.chains.proofs.down.Reads as down-reads
-use Rattle.chains.proofs.put_leg.Reads as put-leg-reads
-use Rattle.items.proofs.parts_at.Reads as parts-at-reads
-use Rattle.octets.proofs.byte_at.Reads as byte-at-reads
-use Rattle.octets.proofs.copy.Reads as copy-reads
-use Rattle.octets.proofs.word_at.Reads as word-at-reads
 
 abbrev invariant-loop : tie.invariant-loop-j
 invariant-loop book places items i plan₀ legs₀ j₀ commands₀ count₀ plan legs j commands count =

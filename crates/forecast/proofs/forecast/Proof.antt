@@ -8,10 +8,6 @@ use Rattle.forecast.proofs.Ways.{as_faulty, as_long, as_fine}
 use borrow.Author.Rules.{rules}
 use Rattle.forecast.proofs.forecast.Statement.{statement}
 use Rattle.forecast.proofs.forecast.Tie as tie
-use Rattle.forecast.proofs.forecast.Reads as reads
-use Rattle.forecast.proofs.forecast.Lts as lts
-use Rattle.forecast.proofs.refused.Reads as refused-reads
-use Rattle.reader.proofs.sum_up.Reads as sum-up-reads
 
 bytes : (c : tie.After-shared_slice_known-1) → Bytes c.args.book.now
 bytes c = each_of (λ x. x < 256) c.args.book.now 0 (λ i h. omega (arith, c.shared_slice_known-1.given i))

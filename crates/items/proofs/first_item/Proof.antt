@@ -8,10 +8,6 @@ use Rattle.book.specs.Book.{Book, AllowedBook, bytes_of}
 use Rattle.items.proofs.Walk.{Before, at_moves, next-move, at_first, at_end_lem}
 use Rattle.items.proofs.first_item.Statement.{statement}
 use Rattle.items.proofs.first_item.Tie as tie
-use Rattle.items.proofs.first_item.Reads as reads
-use Rattle.items.proofs.first_item.Lts as lts
-use Rattle.items.proofs.first_move.Reads as first-move-reads
-use Rattle.items.proofs.kind_at.Reads as kind-at-reads
 
 abbrev invariant-loop : tie.invariant-loop-at
 invariant-loop book at₀ last at = (at ≤ length book + 65545) × ((b : Book) → AllowedBook b → bytes_of b ≡ book → Before book b at)

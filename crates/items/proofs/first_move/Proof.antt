@@ -4,9 +4,6 @@ use borrow.Author.Rules.{rules}
 use Rattle.items.proofs.Weights.{no_record, some_record}
 use Rattle.items.proofs.first_move.Statement.{statement}
 use Rattle.items.proofs.first_move.Tie as tie
-use Rattle.items.proofs.first_move.Reads as reads
-use Rattle.items.proofs.first_move.Lts as lts
-use Rattle.octets.proofs.u16_at.Reads as u16-at-reads
 
 u16-at-requires : tie.Need-u16_at-requires
 u16-at-requires c κs = search rules

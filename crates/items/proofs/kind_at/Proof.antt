@@ -6,8 +6,6 @@ use Rattle.octets.proofs.LeAt.{le2}
 use borrow.Author.Rules.{rules}
 use Rattle.items.proofs.kind_at.Statement.{statement}
 use Rattle.items.proofs.kind_at.Tie as tie
-use Rattle.items.proofs.kind_at.Reads as reads
-use Rattle.items.proofs.kind_at.Lts as lts
 
 add_low : tie.Need-overflow_add-low
 add_low c = search rules

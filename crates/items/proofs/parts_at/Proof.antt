@@ -3,9 +3,6 @@ use Rattle.items.proofs.Laws.{read_parts, parts_none}
 use borrow.Author.Rules.{rules}
 use Rattle.items.proofs.parts_at.Statement.{statement}
 use Rattle.items.proofs.parts_at.Tie as tie
-use Rattle.items.proofs.parts_at.Reads as reads
-use Rattle.items.proofs.parts_at.Lts as lts
-use Rattle.octets.proofs.byte_at.Reads as byte-at-reads
 
 -- past the end no item stands
 returns : tie.Need-returns-then-book-at

@@ -9,10 +9,6 @@ use Rattle.book.proofs.Largest.{length-book}
 use Rattle.items.proofs.Walk.{Passed, none_passed, one_passed, ends_passed, most_passed}
 use Rattle.items.proofs.places.Statement.{statement}
 use Rattle.items.proofs.places.Tie as tie
-use Rattle.items.proofs.places.Reads as reads
-use Rattle.items.proofs.places.Lts as lts
-use Rattle.items.proofs.first_item.Reads as first-item-reads
-use Rattle.items.proofs.parts_at.Reads as parts-at-reads
 
 abbrev invariant-loop : tie.invariant-loop-i
 invariant-loop book places₀ at₀ i₀ places at i =

@@ -5,9 +5,6 @@ use borrow.Author.Rules.{rules}
 use Rattle.octets.proofs.LeAt.{le-past}
 use Rattle.items.proofs.psi.Statement.{statement}
 use Rattle.items.proofs.psi.Tie as tie
-use Rattle.items.proofs.psi.Reads as reads
-use Rattle.items.proofs.psi.Lts as lts
-use Rattle.octets.proofs.u64_at.Reads as u64-at-reads
 
 returns : tie.Need-returns-then-book-item
 returns c = let a = c.before.before.before.args in le-past 8 a.book.now (a.item.masks + 8) (omega (arith, c.if-book-item.true))

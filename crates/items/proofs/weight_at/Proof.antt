@@ -4,7 +4,6 @@ use borrow.Author.Rules.{rules}
 use Rattle.items.proofs.Weights.{no_weights, some-weights}
 use Rattle.items.proofs.weight_at.Statement.{statement}
 use Rattle.items.proofs.weight_at.Tie as tie
-use Rattle.octets.proofs.u16_at.Reads as u16-at-reads
 
 u16-at-requires : tie.Need-u16_at-requires
 u16-at-requires c κs = search rules

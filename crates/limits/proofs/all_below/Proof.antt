@@ -8,9 +8,6 @@ use Rattle.book.specs.Limits.{all_below}
 use Rattle.limits.proofs.Below.{below_again, below_stop, below_done}
 use Rattle.limits.proofs.all_below.Statement.{statement}
 use Rattle.limits.proofs.all_below.Tie as tie
-use Rattle.limits.proofs.all_below.Reads as reads
-use Rattle.limits.proofs.all_below.Lts as lts
-use Rattle.octets.proofs.byte_at.Reads as byte-at-reads
 
 abbrev invariant-loop : tie.invariant-loop-i
 invariant-loop commands m i₀ i-end i = (all_below m (drop i commands) ≡ all_below m commands) × (i ≤ length commands)

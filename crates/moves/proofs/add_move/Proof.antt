@@ -4,10 +4,6 @@ use Rattle.moves.proofs.Rows.{no_such_command, no_such_state, row-stored}
 use borrow.Author.Rules.{rules}
 use Rattle.moves.proofs.add_move.Statement.{statement}
 use Rattle.moves.proofs.add_move.Tie as tie
-use Rattle.moves.proofs.add_move.Reads as reads
-use Rattle.moves.proofs.add_move.Lts as lts
-use Rattle.moves.proofs.with_move.Reads as with-move-reads
-use Rattle.octets.proofs.byte_at.Reads as byte-at-reads
 
 add-byte-at : tie.Need-overflow_add-at
 add-byte-at c = search rules

@@ -9,9 +9,6 @@ use Rattle.book.specs.Buffers.{zeroed}
 use Rattle.moves.proofs.Clearing.{zeroed-more, zeroed-all}
 use Rattle.moves.proofs.clear.Statement.{statement}
 use Rattle.moves.proofs.clear.Tie as tie
-use Rattle.moves.proofs.clear.Reads as reads
-use Rattle.moves.proofs.clear.Lts as lts
-use Rattle.moves.proofs.least.Reads as least-reads
 
 abbrev invariant-loop : tie.invariant-loop-i
 invariant-loop masks₀ n end i₀ masks i = (masks ≡ zeroed i masks₀) × (length masks ≡ length masks₀) × (i ≤ end)

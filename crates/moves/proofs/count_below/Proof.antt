@@ -1,8 +1,7 @@
 -- `count_below` meets its contract. Assumes nothing.
 use mathlib.Core.Path.{◌≡◌, refl, sym, ap, ◌∙◌}
-use Prim.Native.Nat.{ℕ, zero, suc, ◌+◌, ◌-◌, ◌*◌, ◌/◌, ◌%◌, ◌^◌, ◌<◌}
+use Prim.Native.Nat.{ℕ, zero, suc, ◌-◌, ◌/◌, ◌%◌, ◌^◌, ◌<◌}
 use native.Mathlib.Omega.{arith}
-use lib.Bits.{bit_and}
 use lib.Count.{ones}
 use lib.Pow.{pow_pos}
 use Rattle.base.specs.Cardinality.{present, cardinality}
@@ -12,8 +11,6 @@ use Rattle.base.proofs.Added.{ones_below}
 use borrow.Author.Rules.{rules}
 use Rattle.moves.proofs.count_below.Statement.{statement}
 use Rattle.moves.proofs.count_below.Tie as tie
-use Rattle.moves.proofs.count_below.Reads as reads
-use Rattle.moves.proofs.count_below.Lts as lts
 
 -- all n states are n
 all-states : (n : ℕ) → cardinality n (2 ^ n - 1) ≡ n

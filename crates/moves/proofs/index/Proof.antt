@@ -12,12 +12,6 @@ use Rattle.moves.proofs.Rows.{rest_stays}
 use Rattle.moves.proofs.Indexing.{Indexing, indexing, indexed-move, all-indexed}
 use Rattle.moves.proofs.index.Statement.{statement}
 use Rattle.moves.proofs.index.Tie as tie
-use Rattle.moves.proofs.index.Reads as reads
-use Rattle.moves.proofs.index.Lts as lts
-use Rattle.items.proofs.first_move.Reads as first-move-reads
-use Rattle.moves.proofs.add_move.Reads as add-move-reads
-use Rattle.moves.proofs.clear.Reads as clear_reads
-use Rattle.octets.proofs.u16_at.Reads as u16-at-reads
 
 abbrev invariant-loop : tie.invariant-loop-masks
 invariant-loop book masks₀ at₀ masks at =

@@ -3,10 +3,6 @@ use Rattle.moves.proofs.Rows.{no_command, not_found, found}
 use borrow.Author.Rules.{rules}
 use Rattle.moves.proofs.outcomes.Statement.{statement}
 use Rattle.moves.proofs.outcomes.Tie as tie
-use Rattle.moves.proofs.outcomes.Reads as reads
-use Rattle.moves.proofs.outcomes.Lts as lts
-use Rattle.moves.proofs.count_below.Reads as count-below-reads
-use Rattle.octets.proofs.whole_at.Reads as whole-at-reads
 
 returns : tie.Need-returns-then-command-ge48
 returns c = no_command _ _ _ c.if-command-ge48.true (search rules)

@@ -3,8 +3,6 @@ use Rattle.moves.proofs.Rows.{row-begun, row_more}
 use borrow.Author.Rules.{rules}
 use Rattle.moves.proofs.with_move.Statement.{statement}
 use Rattle.moves.proofs.with_move.Tie as tie
-use Rattle.moves.proofs.with_move.Reads as reads
-use Rattle.moves.proofs.with_move.Lts as lts
 
 add-bit : tie.Need-overflow_add-bit
 add-bit c = search rules

@@ -3,8 +3,6 @@ use native.Mathlib.Omega.{arith}
 use borrow.Author.Rules.{rules}
 use Rattle.octets.proofs.byte_in.Statement.{statement}
 use Rattle.octets.proofs.byte_in.Tie as tie
-use Rattle.octets.proofs.byte_in.Reads as reads
-use Rattle.octets.proofs.byte_in.Lts as lts
 
 shared-slice-read-result : tie.Need-bounds-s-i
 shared-slice-read-result c = search rules

@@ -3,9 +3,6 @@ use Rattle.octets.proofs.LeAt.{halves8}
 use borrow.Author.Rules.{rules}
 use Rattle.octets.proofs.eight_at.Statement.{statement}
 use Rattle.octets.proofs.eight_at.Tie as tie
-use Rattle.octets.proofs.eight_at.Reads as reads
-use Rattle.octets.proofs.eight_at.Lts as lts
-use Rattle.octets.proofs.byte_in.Reads as byte-in-reads
 
 byte-in-requires : tie.Need-byte_in-b0-requires
 byte-in-requires c κs = search rules

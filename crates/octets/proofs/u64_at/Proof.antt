@@ -3,10 +3,6 @@ use Rattle.octets.proofs.LeAt.{le-past}
 use borrow.Author.Rules.{rules}
 use Rattle.octets.proofs.u64_at.Statement.{statement}
 use Rattle.octets.proofs.u64_at.Tie as tie
-use Rattle.octets.proofs.u64_at.Reads as reads
-use Rattle.octets.proofs.u64_at.Lts as lts
-use Rattle.octets.proofs.eight_at.Reads as eight-at-reads
-use Rattle.octets.proofs.last_at.Reads as last-at-reads
 
 returns : tie.Need-returns-then-s-at
 returns c = le-past 8 c.before.before.args.s.now c.before.before.args.at c.if-s-at.true

@@ -7,11 +7,6 @@ use Rattle.points.proofs.Asking.{mask_of, masked_bytes}
 use borrow.Author.Rules.{rules}
 use Rattle.points.proofs.asked_by.Statement.{statement}
 use Rattle.points.proofs.asked_by.Tie as tie
-use Rattle.points.proofs.asked_by.Reads as reads
-use Rattle.points.proofs.asked_by.Lts as lts
-use Rattle.items.proofs.phi.Reads as phi-reads
-use Rattle.items.proofs.psi.Reads as psi-reads
-use Rattle.octets.proofs.u64_at.Reads as u64-at-reads
 
 mul-mask : tie.Need-overflow_mul-mask
 mul-mask c = search rules

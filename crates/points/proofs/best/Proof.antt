@@ -18,9 +18,6 @@ use Rattle.points.specs.Rows.{cheaper, cheapest}
 use Rattle.points.proofs.BestItem.{cheaper_yes, cheaper_no}
 use Rattle.points.proofs.best.Statement.{statement}
 use Rattle.points.proofs.best.Tie as tie
-use Rattle.points.proofs.best.Reads as reads
-use Rattle.points.proofs.best.Lts as lts
-use Rattle.points.proofs.wide.Reads as wide-reads
 
 abbrev invariant-loop : tie.invariant-loop-rest
 invariant-loop row ks prices fewest j number₀ first₀ rest₀ number first rest =

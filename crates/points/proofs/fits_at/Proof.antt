@@ -7,10 +7,6 @@ use Rattle.points.proofs.Rows.{asks_other, upper_fails, lower_decides}
 use borrow.Author.Rules.{rules}
 use Rattle.points.proofs.fits_at.Statement.{statement}
 use Rattle.points.proofs.fits_at.Tie as tie
-use Rattle.points.proofs.fits_at.Reads as reads
-use Rattle.points.proofs.fits_at.Lts as lts
-use Rattle.states.proofs.StateSet.is_inside.Reads as is-inside-reads
-use Rattle.states.proofs.StateSet.of.Reads as of-reads
 
 sub_low : tie.Need-overflow_sub-low
 sub_low c = search rules

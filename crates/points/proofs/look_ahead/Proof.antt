@@ -8,9 +8,6 @@ use Rattle.points.specs.Rows.{Ahead}
 use Rattle.points.proofs.Rows.{ahead_next}
 use Rattle.points.proofs.look_ahead.Statement.{statement}
 use Rattle.points.proofs.look_ahead.Tie as tie
-use Rattle.points.proofs.look_ahead.Reads as reads
-use Rattle.points.proofs.look_ahead.Lts as lts
-use Rattle.octets.proofs.u64_at.Reads as u64-at-reads
 
 abbrev invariant-loop : tie.invariant-loop-j
 invariant-loop run i ahead₀ j₀ ahead j = Ahead run j ahead × (length ahead ≡ 33) × (j ≤ i)

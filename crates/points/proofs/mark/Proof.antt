@@ -8,9 +8,6 @@ use borrow.Author.Rules.{rules}
 use Rattle.points.proofs.Rows.{Marking, mark_start, mark_in, mark_out, mark_end}
 use Rattle.points.proofs.mark.Statement.{statement}
 use Rattle.points.proofs.mark.Tie as tie
-use Rattle.points.proofs.mark.Reads as reads
-use Rattle.points.proofs.mark.Lts as lts
-use Rattle.points.proofs.fits_at.Reads as fits-at-reads
 
 abbrev invariant-loop : tie.invariant-loop-j
 invariant-loop item a ahead sets i rows₀ j₀ rows j = Marking item ahead sets a j rows₀ rows × (item.k ≤ j)

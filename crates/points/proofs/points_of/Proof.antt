@@ -27,16 +27,6 @@ use Rattle.points.proofs.BestItem.{fits-room, cheapest-chosen}
 use Rattle.points.proofs.Numbers.{numbered-start, numbered_next}
 use Rattle.points.proofs.points_of.Statement.{statement}
 use Rattle.points.proofs.points_of.Tie as tie
-use Rattle.points.proofs.points_of.Reads as reads
-use Rattle.points.proofs.points_of.Lts as lts
-use Rattle.points.proofs.asked_by.Reads as asked-by-reads
-use Rattle.points.proofs.best.Reads as best-reads
-use Rattle.points.proofs.look_ahead.Reads as look-ahead-reads
-use Rattle.points.proofs.mark.Reads as mark-reads
-use Rattle.points.proofs.no_points.Reads as no-points-reads
-use Rattle.points.proofs.price.Reads as price-reads
-use Rattle.items.proofs.parts_at.Reads as parts-at-reads
-use Rattle.octets.proofs.word_at.Reads as word-at-reads
 
 abbrev invariant-loop : tie.invariant-loop-a
 invariant-loop book places weights count run sets i ahead rows₀ ks₀ prices₀ a₀ rows ks prices a = Listed (links_of (recorded book places) weights run sets count) i a rows ks prices × (a ≤ count)

@@ -10,10 +10,6 @@ use Rattle.items.specs.Items.{held_in}
 use Rattle.points.proofs.ReverseSum.{Summing, sum-start, sum-next, sum-all}
 use Rattle.points.proofs.price.Statement.{statement}
 use Rattle.points.proofs.price.Tie as tie
-use Rattle.points.proofs.price.Reads as reads
-use Rattle.points.proofs.price.Lts as lts
-use Rattle.octets.proofs.byte_at.Reads as byte-at-reads
-use Rattle.octets.proofs.word_at.Reads as word-at-reads
 
 abbrev invariant-loop : tie.invariant-loop-x
 invariant-loop book item weights sum₀ x₀ x-end sum x = Summing weights (held_in book item).reverse x sum

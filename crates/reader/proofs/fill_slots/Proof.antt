@@ -10,10 +10,6 @@ use Rattle.items.specs.Items.{Begins}
 use Rattle.reader.proofs.Filling.{Slotting, slotting, stands, slotted, part_slotted, last_slotted, all_slotted}
 use Rattle.reader.proofs.fill_slots.Statement.{statement}
 use Rattle.reader.proofs.fill_slots.Tie as tie
-use Rattle.reader.proofs.fill_slots.Reads as reads
-use Rattle.reader.proofs.fill_slots.Lts as lts
-use Rattle.slots.proofs.fill.Reads as fill-reads
-use Rattle.slots.proofs.put.Reads as put_reads
 
 abbrev invariant-loop : tie.invariant-loop-at
 invariant-loop book first slots₀ at₀ i₀ slots at i =

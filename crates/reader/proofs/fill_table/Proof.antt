@@ -10,13 +10,6 @@ use Rattle.reader.proofs.Laws.{index-small}
 use Rattle.reader.proofs.Filling.{Entering, entering, entered, other_stands, too_few, table_filled, m_at}
 use Rattle.reader.proofs.fill_table.Statement.{statement}
 use Rattle.reader.proofs.fill_table.Tie as tie
-use Rattle.reader.proofs.fill_table.Reads as reads
-use Rattle.reader.proofs.fill_table.Lts as lts
-use Rattle.items.proofs.first_move.Reads as first-move-reads
-use Rattle.octets.proofs.byte_at.Reads as byte-at-reads
-use Rattle.octets.proofs.u16_at.Reads as u16-at-reads
-use Rattle.moves.proofs.clear.Reads as clear_reads
-use Rattle.reader.proofs.fill.put_move.Reads as put-move-reads
 
 abbrev invariant-loop : tie.invariant-loop-at
 invariant-loop book table₀ n m at₀ table at =

@@ -9,11 +9,6 @@ use Rattle.book.specs.Buffers.{weights_left}
 use Rattle.reader.proofs.Filling.{m_at, Weighing, weighing, weighed, all-weighed}
 use Rattle.reader.proofs.fill_weights.Statement.{statement}
 use Rattle.reader.proofs.fill_weights.Tie as tie
-use Rattle.reader.proofs.fill_weights.Reads as reads
-use Rattle.reader.proofs.fill_weights.Lts as lts
-use Rattle.items.proofs.weight_at.Reads as weight-at-reads
-use Rattle.octets.proofs.byte_at.Reads as byte-at-reads
-use Rattle.reader.proofs.fill.store_weight.Reads as store-weight-reads
 
 abbrev invariant-loop : tie.invariant-loop-command
 invariant-loop book weights₀ m command₀ weights command =

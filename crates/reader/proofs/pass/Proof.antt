@@ -16,11 +16,6 @@ use Rattle.reader.proofs.GoodMoves.{passing_onward, passing_up}
 use Rattle.reader.proofs.Summing.{Summing, summing, passed, moves_passed, summed}
 use Rattle.reader.proofs.pass.Statement.{statement}
 use Rattle.reader.proofs.pass.Tie as tie
-use Rattle.reader.proofs.pass.Reads as reads
-use Rattle.reader.proofs.pass.Lts as lts
-use Rattle.reader.proofs.passing.past_moves.Reads as past-moves-reads
-use Rattle.reader.proofs.scan.turn_at.Reads as turn-at-reads
-use Rattle.reader.proofs.units.with_record.Reads as with-record-reads
 
 abbrev invariant-loop : tie.invariant-loop-seen
 invariant-loop book summing at₀ st₀ tally₀ at st tally =

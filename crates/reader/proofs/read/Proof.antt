@@ -12,13 +12,6 @@ use Rattle.reader.proofs.Exactly.{book-found, fault_found}
 use borrow.Author.Rules.{rules}
 use Rattle.reader.proofs.read.Statement.{statement}
 use Rattle.reader.proofs.read.Tie as tie
-use Rattle.reader.proofs.read.Reads as reads
-use Rattle.reader.proofs.read.Lts as lts
-use Rattle.reader.proofs.fill_slots.Reads as fill-slots-reads
-use Rattle.reader.proofs.fill_table.Reads as fill-table-reads
-use Rattle.reader.proofs.fill_weights.Reads as fill-weights-reads
-use Rattle.reader.proofs.reading_of.Reads as reading-of-reads
-use Rattle.reader.proofs.refused.Reads as refused-reads
 
 -- ---- places: at entry, and where the lengths are tested
 abbrev entry : tie.After-slice_known-3-1 → tie.After-shared_slice_known-1

@@ -3,9 +3,6 @@ use mathlib.Core.Path.{refl}
 use borrow.Author.Rules.{rules}
 use Rattle.reader.proofs.sum_up.Statement.{statement}
 use Rattle.reader.proofs.sum_up.Tie as tie
-use Rattle.reader.proofs.sum_up.Reads as reads
-use Rattle.reader.proofs.sum_up.Lts as lts
-use Rattle.reader.proofs.pass.Reads as pass-reads
 
 pass-requires : tie.Need-pass-requires
 pass-requires c κs = search rules

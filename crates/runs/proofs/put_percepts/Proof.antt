@@ -13,9 +13,6 @@ use Rattle.runs.specs.RunBytes.{masks_bytes}
 use Rattle.runs.proofs.Writing.{percept_rows}
 use Rattle.runs.proofs.put_percepts.Statement.{statement}
 use Rattle.runs.proofs.put_percepts.Tie as tie
-use Rattle.runs.proofs.put_percepts.Reads as reads
-use Rattle.runs.proofs.put_percepts.Lts as lts
-use Rattle.octets.proofs.put_le.Reads as put-le-reads
 
 abbrev invariant-loop : tie.invariant-loop-j
 invariant-loop k percepts out₀ at j₀ out j =

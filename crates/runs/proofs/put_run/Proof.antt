@@ -1,14 +1,8 @@
 -- `runs::put_run` meets its contract: the record's parts, one after the other. Assumes nothing.
-use native.Mathlib.Omega.{arith}
 use borrow.Author.Rules.{rules}
 use Rattle.runs.proofs.Writing.{run-written}
 use Rattle.runs.proofs.put_run.Statement.{statement}
 use Rattle.runs.proofs.put_run.Tie as tie
-use Rattle.runs.proofs.put_run.Reads as reads
-use Rattle.runs.proofs.put_run.Lts as lts
-use Rattle.octets.proofs.copy.Reads as copy-reads
-use Rattle.octets.proofs.put_le.Reads as put-le-reads
-use Rattle.runs.proofs.put_percepts.Reads as put-percepts-reads
 
 mul-put-le : tie.Need-overflow_mul-i
 mul-put-le c = search rules

@@ -8,9 +8,6 @@ use Rattle.runs.specs.Writes.{if_written}
 use Rattle.runs.proofs.Writing.{length-written, fine-written}
 use Rattle.runs.proofs.write.Statement.{statement}
 use Rattle.runs.proofs.write.Tie as tie
-use Rattle.runs.proofs.write.Reads as reads
-use Rattle.runs.proofs.write.Lts as lts
-use Rattle.runs.proofs.put_run.Reads as put-run-reads
 
 returns : tie.Need-returns-then-count-gt32
 unfolding if_written

@@ -10,9 +10,6 @@ use Rattle.slots.proofs.Commands.{fewer_commands, eight-commands}
 use borrow.Author.Rules.{rules}
 use Rattle.slots.proofs.commands_at.Statement.{statement}
 use Rattle.slots.proofs.commands_at.Tie as tie
-use Rattle.slots.proofs.commands_at.Reads as reads
-use Rattle.slots.proofs.commands_at.Lts as lts
-use Rattle.octets.proofs.u64_at.Reads as u64-at-reads
 
 u64-at-requires : tie.Need-u64_at-eight-requires
 u64-at-requires c κs = search rules

@@ -4,13 +4,6 @@ use Rattle.slots.proofs.Laws.{none_filled, item-filled}
 use borrow.Author.Rules.{rules}
 use Rattle.slots.proofs.fill.Statement.{statement}
 use Rattle.slots.proofs.fill.Tie as tie
-use Rattle.slots.proofs.fill.Reads as reads
-use Rattle.slots.proofs.fill.Lts as lts
-use Rattle.items.proofs.parts_at.Reads as parts-at-reads
-use Rattle.items.proofs.phi.Reads as phi-reads
-use Rattle.items.proofs.psi.Reads as psi-reads
-use Rattle.slots.proofs.put_head.Reads as put-head-reads
-use Rattle.slots.proofs.put_tail.Reads as put-tail-reads
 
 parts-at-requires : tie.Need-parts_at-item-requires
 parts-at-requires c κs = search rules

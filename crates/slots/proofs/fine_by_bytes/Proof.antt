@@ -8,13 +8,6 @@ use Rattle.book.proofs.Limits.{counts_on}
 use Rattle.slots.proofs.Tests.{too_short, counts_wrong, fields_wrong, unused-wrong, unused_decides}
 use Rattle.slots.proofs.fine_by_bytes.Statement.{statement}
 use Rattle.slots.proofs.fine_by_bytes.Tie as tie
-use Rattle.slots.proofs.fine_by_bytes.Reads as reads
-use Rattle.slots.proofs.fine_by_bytes.Lts as lts
-use Rattle.limits.proofs.all_below.Reads as all-below-reads
-use Rattle.limits.proofs.counts_fine.Reads as counts-fine-reads
-use Rattle.limits.proofs.fields_fine.Reads as fields-fine-reads
-use Rattle.octets.proofs.byte_at.Reads as byte-at-reads
-use Rattle.octets.proofs.u64_at.Reads as u64-at-reads
 
 -- ---- places: where the counts are fine, from where the fields are, and from where the unused forward bytes are
 abbrev counted : tie.Else-not-fields_fine → tie.Else-not-counts_fine

@@ -3,9 +3,6 @@ use borrow.Author.Rules.{rules}
 use Rattle.slots.proofs.Laws.{k_is}
 use Rattle.slots.proofs.k.Statement.{statement}
 use Rattle.slots.proofs.k.Tie as tie
-use Rattle.slots.proofs.k.Reads as reads
-use Rattle.slots.proofs.k.Lts as lts
-use Rattle.octets.proofs.byte_at.Reads as byte-at-reads
 
 mul-byte-at : tie.Need-overflow_mul-a
 mul-byte-at c = search rules

@@ -3,9 +3,6 @@ use Rattle.book.specs.Slots.{item_at}
 use borrow.Author.Rules.{rules}
 use Rattle.slots.proofs.psi.Statement.{statement}
 use Rattle.slots.proofs.psi.Tie as tie
-use Rattle.slots.proofs.psi.Reads as reads
-use Rattle.slots.proofs.psi.Lts as lts
-use Rattle.octets.proofs.u64_at.Reads as u64-at-reads
 
 mul-u64-at : tie.Need-overflow_mul-a
 mul-u64-at c = search rules

@@ -4,13 +4,6 @@ use Rattle.slots.proofs.Laws.{none_filled, head_put, tail_put, item-filled}
 use borrow.Author.Rules.{rules}
 use Rattle.slots.proofs.put.Statement.{statement}
 use Rattle.slots.proofs.put.Tie as tie
-use Rattle.slots.proofs.put.Reads as reads
-use Rattle.slots.proofs.put.Lts as lts
-use Rattle.items.proofs.parts_at.Reads as parts-at-reads
-use Rattle.items.proofs.phi.Reads as phi-reads
-use Rattle.items.proofs.psi.Reads as psi-reads
-use Rattle.octets.proofs.put_le.Reads as put-le-reads
-use Rattle.slots.proofs.commands_at.Reads as commands-at-reads
 
 parts-at-requires : tie.Need-parts_at-item-requires
 parts-at-requires c κs = search rules

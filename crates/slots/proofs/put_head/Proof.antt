@@ -3,10 +3,6 @@ use Rattle.slots.proofs.Laws.{head_put}
 use borrow.Author.Rules.{rules}
 use Rattle.slots.proofs.put_head.Statement.{statement}
 use Rattle.slots.proofs.put_head.Tie as tie
-use Rattle.slots.proofs.put_head.Reads as reads
-use Rattle.slots.proofs.put_head.Lts as lts
-use Rattle.octets.proofs.put_le.Reads as put-le-reads
-use Rattle.slots.proofs.commands_at.Reads as commands-at-reads
 
 mul-put-le : tie.Need-overflow_mul-r
 mul-put-le c = search rules

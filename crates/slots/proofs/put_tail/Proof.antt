@@ -3,10 +3,6 @@ use Rattle.slots.proofs.Laws.{tail_put}
 use borrow.Author.Rules.{rules}
 use Rattle.slots.proofs.put_tail.Statement.{statement}
 use Rattle.slots.proofs.put_tail.Tie as tie
-use Rattle.slots.proofs.put_tail.Reads as reads
-use Rattle.slots.proofs.put_tail.Lts as lts
-use Rattle.octets.proofs.put_le.Reads as put-le-reads
-use Rattle.slots.proofs.commands_at.Reads as commands-at-reads
 
 commands-at-requires : tie.Need-commands_at-requires
 commands-at-requires c κs = search rules

@@ -3,9 +3,6 @@ use borrow.Author.Rules.{rules}
 use Rattle.slots.proofs.Laws.{r_is}
 use Rattle.slots.proofs.r.Statement.{statement}
 use Rattle.slots.proofs.r.Tie as tie
-use Rattle.slots.proofs.r.Reads as reads
-use Rattle.slots.proofs.r.Lts as lts
-use Rattle.octets.proofs.byte_at.Reads as byte-at-reads
 
 mul-byte-at : tie.Need-overflow_mul-a
 mul-byte-at c = search rules

@@ -16,15 +16,6 @@ use Rattle.runs.proofs.Points.{last-is, command-is, percept-is}
 use Rattle.points.proofs.Passes.{Forward, Backward, forward-start, forward-next, backward_start, backward_next, backward_done}
 use Rattle.points.proofs.beliefs.beliefs.Statement.{statement}
 use Rattle.points.proofs.beliefs.beliefs.Tie as tie
-use Rattle.points.proofs.beliefs.beliefs.Reads as reads
-use Rattle.points.proofs.beliefs.beliefs.Lts as lts
-use Rattle.runs.proofs.command_at.Reads as command-at-reads
-use Rattle.runs.proofs.last_point.Reads as last-point-reads
-use Rattle.runs.proofs.percept_at.Reads as percept-at-reads
-use Rattle.states.proofs.StateSet.after.Reads as after-reads
-use Rattle.states.proofs.StateSet.before.Reads as before-reads
-use Rattle.states.proofs.StateSet.of.Reads as of-reads
-use Rattle.states.proofs.StateSet.within.Reads as within-reads
 
 -- on the run, with as many masks as before; within the limits of devices what the passes give
 abbrev Within : ℕ → ℕ → List ℕ → List ℕ → ℕ → ℕ → Type 0 → Type 0

@@ -5,11 +5,6 @@ use Rattle.reader.proofs.Laws.{index-small}
 use borrow.Author.Rules.{rules}
 use Rattle.reader.proofs.fill.put_move.Statement.{statement}
 use Rattle.reader.proofs.fill.put_move.Tie as tie
-use Rattle.reader.proofs.fill.put_move.Reads as reads
-use Rattle.reader.proofs.fill.put_move.Lts as lts
-use Rattle.octets.proofs.byte_at.Reads as byte-at-reads
-use Rattle.octets.proofs.u64_at.Reads as u64-at-reads
-use Rattle.reader.proofs.fill.store.Reads as store-reads
 
 add-byte-at : tie.Need-overflow_add-at
 add-byte-at c = search rules

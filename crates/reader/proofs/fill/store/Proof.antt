@@ -3,8 +3,6 @@ use Rattle.reader.proofs.Stores.{store_past}
 use borrow.Author.Rules.{rules}
 use Rattle.reader.proofs.fill.store.Statement.{statement}
 use Rattle.reader.proofs.fill.store.Tie as tie
-use Rattle.reader.proofs.fill.store.Reads as reads
-use Rattle.reader.proofs.fill.store.Lts as lts
 
 mul-table : tie.Need-offset_bounds-table-i
 mul-table c = search rules

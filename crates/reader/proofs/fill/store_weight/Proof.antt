@@ -3,8 +3,6 @@ use Rattle.reader.proofs.Stores.{store_past}
 use borrow.Author.Rules.{rules}
 use Rattle.reader.proofs.fill.store_weight.Statement.{statement}
 use Rattle.reader.proofs.fill.store_weight.Tie as tie
-use Rattle.reader.proofs.fill.store_weight.Reads as reads
-use Rattle.reader.proofs.fill.store_weight.Lts as lts
 
 mul-weights : tie.Need-offset_bounds-weights-i
 mul-weights c = search rules

@@ -5,10 +5,6 @@ use Rattle.reader.proofs.Laws.{index-small}
 use Rattle.reader.proofs.GoodMoves.{good-move}
 use Rattle.reader.proofs.passing.low_after.Statement.{statement}
 use Rattle.reader.proofs.passing.low_after.Tie as tie
-use Rattle.reader.proofs.passing.low_after.Reads as reads
-use Rattle.reader.proofs.passing.low_after.Lts as lts
-use Rattle.octets.proofs.byte_at.Reads as byte-at-reads
-use Rattle.octets.proofs.u64_at.Reads as u64-at-reads
 
 add-byte-at : tie.Need-overflow_add-at
 add-byte-at c = search rules

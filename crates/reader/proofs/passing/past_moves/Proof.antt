@@ -7,10 +7,6 @@ use Rattle.reader.specs.Passing.{Passing}
 use Rattle.reader.specs.Passing.Passing.{none, one}
 use Rattle.reader.proofs.passing.past_moves.Statement.{statement}
 use Rattle.reader.proofs.passing.past_moves.Tie as tie
-use Rattle.reader.proofs.passing.past_moves.Reads as reads
-use Rattle.reader.proofs.passing.past_moves.Lts as lts
-use Rattle.reader.proofs.passing.low_after.Reads as low-after-reads
-use Rattle.reader.proofs.passing.states_below.Reads as states-below-reads
 
 abbrev invariant-loop : tie.invariant-loop-at
 invariant-loop s from n m items top phase₀ low₀ at₀ phase low at =

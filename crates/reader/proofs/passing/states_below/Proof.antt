@@ -6,8 +6,6 @@ use Rattle.base.proofs.Masks.{shl_one}
 use borrow.Author.Rules.{rules}
 use Rattle.reader.proofs.passing.states_below.Statement.{statement}
 use Rattle.reader.proofs.passing.states_below.Tie as tie
-use Rattle.reader.proofs.passing.states_below.Reads as reads
-use Rattle.reader.proofs.passing.states_below.Lts as lts
 
 shl-result : tie.Need-overflow_shl-result
 shl-result c = search rules

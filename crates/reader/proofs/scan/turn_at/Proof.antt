@@ -6,10 +6,6 @@ use Rattle.reader.proofs.Turns.{told, stood, over_empty, over_end, over_short, g
 use borrow.Author.Rules.{rules}
 use Rattle.reader.proofs.scan.turn_at.Statement.{statement}
 use Rattle.reader.proofs.scan.turn_at.Tie as tie
-use Rattle.reader.proofs.scan.turn_at.Reads as reads
-use Rattle.reader.proofs.scan.turn_at.Lts as lts
-use Rattle.reader.proofs.scan.head_at.Reads as head-at-reads
-use Rattle.reader.proofs.steps.record_step.Reads as record-step-reads
 
 head-at-requires : tie.Need-head_at-head-requires
 head-at-requires c κs = search rules

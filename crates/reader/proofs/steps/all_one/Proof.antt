@@ -12,9 +12,6 @@ use Rattle.book.proofs.Weights.{ones_decide}
 use Rattle.reader.proofs.Weights.{weight-here, weight-none}
 use Rattle.reader.proofs.steps.all_one.Statement.{statement}
 use Rattle.reader.proofs.steps.all_one.Tie as tie
-use Rattle.reader.proofs.steps.all_one.Reads as reads
-use Rattle.reader.proofs.steps.all_one.Lts as lts
-use Rattle.octets.proofs.u16_at.Reads as u16-at-reads
 
 abbrev invariant-loop : tie.invariant-loop-at
 invariant-loop body at₀ at = (all_one (weights_of (drop at body)) ≡ all_one (weights_of body)) × (at ≤ length body)

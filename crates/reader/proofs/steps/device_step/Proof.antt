@@ -7,10 +7,6 @@ use Rattle.book.proofs.Limits.{device_on}
 use borrow.Author.Rules.{rules}
 use Rattle.reader.proofs.steps.device_step.Statement.{statement}
 use Rattle.reader.proofs.steps.device_step.Tie as tie
-use Rattle.reader.proofs.steps.device_step.Reads as reads
-use Rattle.reader.proofs.steps.device_step.Lts as lts
-use Rattle.limits.proofs.device_fine.Reads as device-fine-reads
-use Rattle.octets.proofs.byte_at.Reads as byte-at-reads
 
 returns : tie.Need-returns-then-st-ne0
 returns c = (search tests depth 6, search rules)

@@ -5,10 +5,6 @@ use Rattle.reader.proofs.Laws.{item_is}
 use borrow.Author.Rules.{rules}
 use Rattle.reader.proofs.steps.item_fine.Statement.{statement}
 use Rattle.reader.proofs.steps.item_fine.Tie as tie
-use Rattle.reader.proofs.steps.item_fine.Reads as reads
-use Rattle.reader.proofs.steps.item_fine.Lts as lts
-use Rattle.limits.proofs.fields_fine.Reads as fields-fine-reads
-use Rattle.octets.proofs.u64_at.Reads as u64-at-reads
 
 add-u64-at : tie.Need-overflow_add-k
 add-u64-at c = search rules

@@ -7,11 +7,6 @@ use Rattle.book.proofs.Limits.{counts_on}
 use borrow.Author.Rules.{rules}
 use Rattle.reader.proofs.steps.item_step.Statement.{statement}
 use Rattle.reader.proofs.steps.item_step.Tie as tie
-use Rattle.reader.proofs.steps.item_step.Reads as reads
-use Rattle.reader.proofs.steps.item_step.Lts as lts
-use Rattle.limits.proofs.counts_fine.Reads as counts-fine-reads
-use Rattle.octets.proofs.byte_at.Reads as byte-at-reads
-use Rattle.reader.proofs.steps.item_fine.Reads as item-fine-reads
 
 returns : tie.Need-returns-then-st-lt1
 returns c = (search tests depth 6, search rules)

@@ -3,8 +3,6 @@ use Rattle.base.proofs.Picks.{tests}
 use Rattle.book.specs.Parse.{kind_of}
 use Rattle.reader.proofs.steps.kind_of.Statement.{statement}
 use Rattle.reader.proofs.steps.kind_of.Tie as tie
-use Rattle.reader.proofs.steps.kind_of.Reads as reads
-use Rattle.reader.proofs.steps.kind_of.Lts as lts
 
 returns : tie.Need-returns-then-number-eq1
 unfolding kind_of

@@ -8,11 +8,6 @@ use Rattle.reader.proofs.Laws.{index-small, move_goes}
 use borrow.Author.Rules.{rules}
 use Rattle.reader.proofs.steps.move_step.Statement.{statement}
 use Rattle.reader.proofs.steps.move_step.Tie as tie
-use Rattle.reader.proofs.steps.move_step.Reads as reads
-use Rattle.reader.proofs.steps.move_step.Lts as lts
-use Rattle.limits.proofs.move_fine.Reads as move-fine-reads
-use Rattle.octets.proofs.byte_at.Reads as byte-at-reads
-use Rattle.octets.proofs.u64_at.Reads as u64-at-reads
 
 returns : tie.Need-returns-then-st-lt2
 returns c = (search tests depth 6, search rules)

@@ -3,13 +3,6 @@ use Rattle.reader.proofs.Laws.{step-unknown, step_of}
 use borrow.Author.Rules.{rules}
 use Rattle.reader.proofs.steps.record_step.Statement.{statement}
 use Rattle.reader.proofs.steps.record_step.Tie as tie
-use Rattle.reader.proofs.steps.record_step.Reads as reads
-use Rattle.reader.proofs.steps.record_step.Lts as lts
-use Rattle.reader.proofs.steps.device_step.Reads as device-step-reads
-use Rattle.reader.proofs.steps.item_step.Reads as item-step-reads
-use Rattle.reader.proofs.steps.kind_of.Reads as kind-of-reads
-use Rattle.reader.proofs.steps.move_step.Reads as move-step-reads
-use Rattle.reader.proofs.steps.weights_step.Reads as weights-step-reads
 
 kind-of-requires : tie.Need-kind_of-requires
 kind-of-requires c κs = search rules

@@ -12,10 +12,6 @@ use Rattle.book.proofs.Weights.{fine_decide}
 use Rattle.reader.proofs.Weights.{weight-here, weight-none}
 use Rattle.reader.proofs.steps.weights_fine.Statement.{statement}
 use Rattle.reader.proofs.steps.weights_fine.Tie as tie
-use Rattle.reader.proofs.steps.weights_fine.Reads as reads
-use Rattle.reader.proofs.steps.weights_fine.Lts as lts
-use Rattle.limits.proofs.weight_fine.Reads as weight-fine-reads
-use Rattle.octets.proofs.u16_at.Reads as u16-at-reads
 
 abbrev invariant-loop : tie.invariant-loop-at
 invariant-loop body at₀ at = (weights_fine (weights_of (drop at body)) ≡ weights_fine (weights_of body)) × (at ≤ length body)

@@ -4,10 +4,6 @@ use borrow.Author.Rules.{rules}
 use Rattle.base.proofs.Picks.{tests, calls}
 use Rattle.reader.proofs.steps.weights_step.Statement.{statement}
 use Rattle.reader.proofs.steps.weights_step.Tie as tie
-use Rattle.reader.proofs.steps.weights_step.Reads as reads
-use Rattle.reader.proofs.steps.weights_step.Lts as lts
-use Rattle.reader.proofs.steps.all_one.Reads as all-one-reads
-use Rattle.reader.proofs.steps.weights_fine.Reads as weights-fine-reads
 
 returns : tie.Need-returns-then-st-ne3
 returns c = (search tests depth 6, search rules)

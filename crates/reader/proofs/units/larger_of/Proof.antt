@@ -3,8 +3,6 @@ use Rattle.base.proofs.Picks.{tests}
 use Rattle.reversal.specs.Computed.Units.{larger}
 use Rattle.reader.proofs.units.larger_of.Statement.{statement}
 use Rattle.reader.proofs.units.larger_of.Tie as tie
-use Rattle.reader.proofs.units.larger_of.Reads as reads
-use Rattle.reader.proofs.units.larger_of.Lts as lts
 
 returns : tie.Need-returns-then-a-b
 unfolding larger

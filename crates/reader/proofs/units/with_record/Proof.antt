@@ -7,12 +7,6 @@ use borrow.Author.Rules.{rules}
 use Rattle.reader.proofs.Summing.{ones-most, product_most, adds_nothing, no_further, adds_item}
 use Rattle.reader.proofs.units.with_record.Statement.{statement}
 use Rattle.reader.proofs.units.with_record.Tie as tie
-use Rattle.reader.proofs.units.with_record.Reads as reads
-use Rattle.reader.proofs.units.with_record.Lts as lts
-use Rattle.items.proofs.parts_at.Reads as parts-at-reads
-use Rattle.items.proofs.psi.Reads as psi-reads
-use Rattle.octets.proofs.u16_at.Reads as u16-at-reads
-use Rattle.reader.proofs.units.larger_of.Reads as larger-of-reads
 
 returns : tie.Need-returns-then-not-summing
 returns c = (c.before.before.requires.0, λ e. absurd (false≢true (ap not (sym e) ∙ c.if-not-summing.true-raw)))

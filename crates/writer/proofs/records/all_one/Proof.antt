@@ -12,9 +12,6 @@ use Rattle.book.proofs.Weights.{ones_decide}
 use Rattle.writer.proofs.Scans.{piece-here, piece-none}
 use Rattle.writer.proofs.records.all_one.Statement.{statement}
 use Rattle.writer.proofs.records.all_one.Tie as tie
-use Rattle.writer.proofs.records.all_one.Reads as reads
-use Rattle.writer.proofs.records.all_one.Lts as lts
-use Rattle.octets.proofs.word_at.Reads as word-at-reads
 
 abbrev invariant-loop : tie.invariant-loop-i
 invariant-loop k w i₀ i = (all_one (piece (k - i) w i) ≡ all_one (piece k w 0)) × (i ≤ k)

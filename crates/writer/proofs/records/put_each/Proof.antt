@@ -14,10 +14,6 @@ use Rattle.octets.proofs.Turns.{rows_again, rows_done}
 use Rattle.writer.proofs.Rows.{weight_rows}
 use Rattle.writer.proofs.records.put_each.Statement.{statement}
 use Rattle.writer.proofs.records.put_each.Tie as tie
-use Rattle.writer.proofs.records.put_each.Reads as reads
-use Rattle.writer.proofs.records.put_each.Lts as lts
-use Rattle.octets.proofs.put_le.Reads as put-le-reads
-use Rattle.octets.proofs.word_at.Reads as word-at-reads
 
 abbrev invariant-loop : tie.invariant-loop-i
 invariant-loop k w d₀ at i₀ d i =

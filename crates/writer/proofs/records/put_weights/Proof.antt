@@ -16,11 +16,6 @@ use Rattle.writer.proofs.Stores.{weights_record, no_record, one_record}
 use borrow.Author.Rules.{rules}
 use Rattle.writer.proofs.records.put_weights.Statement.{statement}
 use Rattle.writer.proofs.records.put_weights.Tie as tie
-use Rattle.writer.proofs.records.put_weights.Reads as reads
-use Rattle.writer.proofs.records.put_weights.Lts as lts
-use Rattle.octets.proofs.put_le.Reads as put-le-reads
-use Rattle.writer.proofs.records.all_one.Reads as all-one-reads
-use Rattle.writer.proofs.records.put_each.Reads as put-each-reads
 
 all-one-requires : tie.Need-all_one-requires
 all-one-requires c κs = search rules

@@ -144,9 +144,6 @@ element-copy-out-sum c =
     let i = pointed c in
     omega (arith, ways.low (fine-run (fine (passed (possible i)))), i.last_point-i.ensures.0)
 
-returns-3 : tie.Need-returns-then-sum
-returns-3 c = ways.no_number (numbers-known c.before.before.before) c.if-sum.true
-
 slice-aggregate-write-chain : tie.Need-slice_bounds-write_chain-end
 slice-aggregate-write-chain c = search rules
 
@@ -161,14 +158,6 @@ same_length c = search rules
 
 same-length-2 : tie.Need-shape_of-legs
 same-length-2 c = search rules
-
-returns-4 : tie.Need-returns
-returns-4 c =
-    let w = walked c in
-    let e = chain w.before in
-    let known = numbers-known (numbered e) in
-    let a = (start (fine (passed (possible (pointed (numbered e))))).before).args in
-    ways.written known e.if-sum.false _ (w.write_chain-counts.ensures.walked (ways.found known e.if-sum.false (lent_room a.plan.now a.legs.now)).walkable)
 
 pub planned_spec : {M : Type 1} → statement M
 planned_spec =
@@ -195,3 +184,14 @@ planned_spec =
     same_length
     same-length-2
     returns-4)
+  where
+    returns-3 : tie.Need-returns-then-sum
+    returns-3 c = ways.no_number (numbers-known c.before.before.before) c.if-sum.true
+
+    returns-4 : tie.Need-returns
+    returns-4 c =
+        let w = walked c in
+        let e = chain w.before in
+        let known = numbers-known (numbered e) in
+        let a = (start (fine (passed (possible (pointed (numbered e))))).before).args in
+        ways.written known e.if-sum.false _ (w.write_chain-counts.ensures.walked (ways.found known e.if-sum.false (lent_room a.plan.now a.legs.now)).walkable)

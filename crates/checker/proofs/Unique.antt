@@ -29,6 +29,7 @@ use Rattle.checker.specs.declared.Reason.{Reason}
 use Rattle.checker.specs.declared.Reason.TheVariants.{NoReversePlan, NotEffective}
 use Rattle.checker.specs.Reasons.{code_of, Due}
 use Rattle.checker.specs.Checks.{AllAccepted, AcceptedBook, place_of, FirstWrong, WrongFor, UnitsMade, Checked, with_units, Checks, unread, wrong, fine}
+use Rattle.checker.proofs.Inside.{wrong_inside}
 
 one-wrong : (b : Book) {i j : ℕ} → FirstWrong b i → FirstWrong b j → i ≡ j
 one-wrong b f g = one-lowest f g
@@ -216,7 +217,7 @@ module _ {book : List ℕ} {l : Lent} {r : Checking} {l' : Lent} (h : Bytes book
         go (unread y n e) = omega (arith, ap (λ (c : Checking). c.units) e)
         go (wrong b' f {i} {why} w {units} u e) =
             let q : b' ≡ b = this_book a same f in
-            omega (arith, ap (λ (c : Checking). c.units) e, subst (λ (c : Book). units ≤ sum_units c.n c.items) q (made-within b' i why w.first.inside u))
+            omega (arith, ap (λ (c : Checking). c.units) e, subst (λ (c : Book). units ≤ sum_units c.n c.items) q (made-within b' i why (wrong_inside w) u))
         go (fine b' k e) =
             let q : b' ≡ b = this_book a same k.filled in
             omega (arith, ap (λ (c : Checking). c.units) e, ap (λ (c : Book). sum_units c.n c.items) q)

@@ -41,7 +41,7 @@ use Rattle.finder.specs.contracts.find as find
 use Rattle.writer.specs.declared.Writing.{Writing}
 use Rattle.writer.specs.Writes.{Writes}
 use Rattle.writer.specs.Contract.{WriteAs}
-use Rattle.writer.proofs.Exactly.{writes}
+use Rattle.writer.proofs.AsContracted.{writes}
 use Rattle.writer.proofs.RoundTrips.{writes_zero↔, write_well_formed, write_length}
 use Rattle.writer.specs.contracts.write as write
 use Rattle.assembly.specs.Asked.{Asked, asked}

@@ -23,10 +23,10 @@ use Rattle.book.proofs.Limits.{device_or_not, weight_of, weight_on}
 use Rattle.book.proofs.Fields.{clear_of, clear_on}
 use Rattle.book.proofs.Largest.{length-book}
 use Rattle.book.proofs.Slots.{slot_allowed↔}
-use Rattle.book.proofs.RoundTrip.{written-allowed, written-holds, held-book, held_writable}
+use Rattle.book.proofs.RoundTrip.{written-allowed, held-book, held_writable}
 use Rattle.writer.specs.declared.Writing.{Writing}
 use Rattle.writer.specs.Lowest.{lowest_weight, lowest_entry, lowest_slot}
-use Rattle.writer.specs.Contract.{checked, book_bytes, WriteAs}
+use Rattle.writer.specs.Contract.{checked, book_bytes}
 use Rattle.writer.specs.Writes.{buffers, WeightRight, EntryRight, SlotRight, Refuses, refusal, written, BookWritten, Writes}
 use Rattle.writer.specs.Writes.Refuses.{short, device, count, weight, entry, slot}
 use Rattle.writer.specs.Writes.Writes.{refused, done}
@@ -34,7 +34,7 @@ use Rattle.writer.proofs.Chain.{at_short, at_device, at_count, at_weight, at_ent
 
 -- ---- the output
 module _ (book out : List ℕ) (room : length book ≤ length out) where
-  book-stored : BookWritten book out (written (length book)) (sets out 0 book)
+  pub book-stored : BookWritten book out (written (length book)) (sets out 0 book)
   book-stored = record { answer = refl; bytes = stored book out (sets out 0 book) room refl }
 
 module _ (n m items : ℕ) (l : Lent) (out : List ℕ) (h : Bytes l.slots) where
@@ -124,7 +124,7 @@ module _ (n m items : ℕ) (l : Lent) (out : List ℕ) (h : Bytes l.slots) where
       on_long (yes long) = on_device long (device_or_not n m)
       on_long (no q) = inl (1, 0, short q)
 
-  book-room : LongEnough (buffers l out) → Writable n m items l → length (book_bytes n m items l) ≤ length out
+  pub book-room : LongEnough (buffers l out) → Writable n m items l → length (book_bytes n m items l) ≤ length out
   book-room long w =
       omega (arith, long.1.1.1.0, length-book (book_from n m items l) (written-allowed n m items l w))
 
@@ -133,22 +133,6 @@ pub read-long : (l : Lent) (out : List ℕ) → LongEnough (buffers l out) → L
 read-long l out long = (long.0, (long.1.0, (long.1.1.0, tt)))
 
 module _ {n m items : ℕ} {l : Lent} {out : List ℕ} where
-  pub writes : {r : Writing} {out' : List ℕ} → WriteAs n m items l out r out' → Writes n m items l out r out'
-  writes {r} {out'} a = go (judged n m items l out a.bytes)
-    where
-      go : Judged n m items l out a.bytes → Writes n m items l out r out'
-      go (inl (code, place, q)) =
-          refused q (a.result ∙ sym (refused-is n m items l out a.bytes _ _ q))
-          (a.output ∙ sym (refused-is n m items l out a.bytes _ _ q))
-      go (inr (long, w)) =
-          done long (book_from n m items l) (written-allowed n m items l w)
-          (written-holds n m items l w (read-long l out long) a.bytes)
-          (rw (
-            a.result ∙ sym (fine-is n m items l out a.bytes _ _ long w),
-            a.output ∙ sym (fine-is n m items l out a.bytes _ _ long w),
-          )
-          (book-stored _ out (book-room n m items l out a.bytes long w)))
-
   module _ (h : Bytes l.slots) where
     -- the two equations of the contract
     writes_is : {r : Writing} {out' : List ℕ} → Writes n m items l out r out'

@@ -3,6 +3,7 @@ pub mod Rows
 pub mod Scans
 pub mod Chain
 pub mod Exactly
+pub mod AsContracted
 pub mod RoundTrips
 pub mod Cases
 pub mod Edges

@@ -106,6 +106,14 @@ awk -v exported="$exported" '
         print "c/names.sh: " FILENAME ": " what
         status = 1
     }
+    # A text on one line, however it was laid out.
+    function plain(text) {
+        gsub(/ +/, " ", text)
+        gsub(/\( /, "(", text)
+        gsub(/,? \)/, ")", text)
+        sub(/^ /, "", text)
+        return text
+    }
     # The words that a ghost use line brings in, each with where it stands.
     /^ghost use / {
         if ($0 !~ /^ghost use [A-Za-z_.]+\.\{[^{}]*\};$/ || / as /)
@@ -130,14 +138,13 @@ awk -v exported="$exported" '
         part = "head"
     }
     part == "head" && /^\{/ {
-        head = text
+        head = plain(text)
         text = ""
         part = "body"
         next
     }
     part == "body" && /^\}/ {
         part = ""
-        gsub(/^ +/, "", text)
         if (FILENAME !~ /planner_c/) {
             head_of[name] = head
             next
@@ -149,15 +156,11 @@ awk -v exported="$exported" '
         sub(/^[^(]*\(/, "", head)
         sub(/\) -> .*/, "", head)
         gsub(/: [^,]*/, "", head)
-        gsub(/ /, "", head)
-        sub(/,$/, "", head)
-        gsub(/,/, ", ", head)
-        if (text != "planner::" name "(" head ")")
+        if (plain(text) != "planner::" name "(" head ")")
             wrong(name " does not only pass its arguments on to planner")
     }
     part != "" {
-        gsub(/^ +/, " ")
-        text = text $0
+        text = text " " $0
     }
     END {
         count = split(exported, call, "\n")

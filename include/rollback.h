@@ -16,8 +16,7 @@
  * memcpy and memset are right. c/check.sh and the tests in rust/ try all of that.
  *
  * Calls use the SSE registers, as the calling convention of x86-64 allows, and nothing of AVX. Where nobody saves
- * them, as in an interrupt handler, the caller does. They use the instructions of x86-64-v2, up to SSE4.2 and
- * POPCNT: older processors don't have these.
+ * them, as in an interrupt handler, the caller does.
  *
  * Lengths count elements. Where a length is 0 the pointer may be null. Book, run and forward commands may have
  * any length. Lent buffers may be longer than stated: what lies past the stated length stays as it was, and no
@@ -80,7 +79,7 @@ extern "C" {
 #define ROLLBACK_FIND_STACK 2048
 #define ROLLBACK_ASSEMBLE_STACK 4096
 #define ROLLBACK_ASSEMBLE_LEGS_STACK 4096
-#define ROLLBACK_ASSEMBLE_SMALL_STACK 3584
+#define ROLLBACK_ASSEMBLE_SMALL_STACK 3072
 #define ROLLBACK_PAGE_STACK 4096
 #define ROLLBACK_WRITE_STACK 512
 #define ROLLBACK_RIDGE_STACK 512

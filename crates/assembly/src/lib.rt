@@ -49,6 +49,7 @@ pub fn refused(code: u64, place: u64) -> Assembly
 }
 
 // Assembles with a book that was accepted: the outcomes are read in a table or in the book's moves, as `tabled` says, and the items in their records.
+#[inline(always)]
 fn planned(
     book: &[u8],
     run: &[u8],

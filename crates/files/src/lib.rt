@@ -1,7 +1,7 @@
 // Reading a file into a lent row.
 #![tactic(auto)]
 
-ghost use Rattle.std.specs.Prelude.{◌≤◌, length};
+ghost use Rattle.std.specs.Prelude.{◌≤◌, length, IfOk, IsUtf8};
 ghost use Rattle.io.specs.Counts.{IsPrefixLen};
 
 use std::fs::File;
@@ -9,7 +9,9 @@ use std::io::{Error, ErrorKind, Read, Result};
 use std::rt::Files;
 
 // Opens a file for reading. A path that is no UTF-8 can't be opened.
-pub fn open_read<R: Files>(rt: &R, path: &[u8]) -> Result<R::File> {
+pub fn open_read<R: Files>(rt: &R, path: &[u8]) -> Result<R::File>
+    ensures { IfOk result (λ file. IsUtf8 path.now) }
+{
     match str::from_utf8(path) {
         Ok(name) => File::open(rt, name),
         Err(_) => Err(Error::from(ErrorKind::InvalidInput)),

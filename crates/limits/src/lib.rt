@@ -38,7 +38,7 @@ pub fn weight_fine(w: u64) -> bool
 }
 
 // Whether a mask has no bit at n or above; none has one at 64 or above.
-#[tactic(auto, using(crate::proofs::Shifts::shifted, crate::proofs::Shifts::whole))]
+#[tactic(auto, using(base::proofs::Masks::shr_zero, base::proofs::Masks::word_clear))]
 pub fn mask_fine(mask: u64, n: u64) -> bool
     ensures { result ≡ clear_from n mask }
 {

@@ -12,7 +12,7 @@ fn print_answer(rt: &impl Print, r: Paged, page: &[u8]) {
     vectors::print_numbers(rt, &row, 6);
     vectors::print_longs(rt, &a.fewest, 33);
     let length = r.length as usize;
-    vectors::print_text(rt, vectors::part(page, 0, length));
+    let _ = rt.write_all(vectors::part(page, 0, length));
     vectors::print_bytes(rt, vectors::part(page, length, 4), 4);
 }
 

@@ -151,7 +151,7 @@ pub fn leg_bytes(legs: u64) -> usize
 }
 
 // Prints bytes as they are. What standard output does not take is let go.
-pub fn print_text(rt: &impl Print, text: &[u8]) {
+fn print_text(rt: &impl Print, text: &[u8]) {
     let _ = rt.write_all(text);
 }
 

@@ -88,10 +88,9 @@ same-length-8 c = search rules
 
 returns-4 : tie.Need-returns
 returns-4 c =
-    let p = c in
-    let a = accepted p.before.before.before.before.before in
+    let a = accepted c.before.before.before.before.before in
     let k = checked a.before in
-    ways.lent-planned k.check-found.ensures (long k) a.if-found-ne0.false p.planned.ensures
+    ways.lent-planned k.check-found.ensures (long k) a.if-found-ne0.false c.planned.ensures
 
 pub assemble_spec : {M : Type 1} → statement M
 assemble_spec =

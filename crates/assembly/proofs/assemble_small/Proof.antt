@@ -100,9 +100,8 @@ same-length-4 c = search rules
 
 returns-5 : tie.Need-returns
 returns-5 c =
-    let p = c in
-    let k = checked (accepted (weighed p.before.before.before.before.before)).before in
-    small-long (long k) k.check_small-found.ensures.rest p.planned.ensures
+    let k = checked (accepted (weighed c.before.before.before.before.before)).before in
+    small-long (long k) k.check_small-found.ensures.rest c.planned.ensures
 
 pub assemble_small_spec : {M : Type 1} → statement M
 assemble_small_spec =

@@ -102,9 +102,8 @@ refused-requires c κs = search rules
 
 returns : tie.Need-returns-then-not-run_fine
 returns c =
-    let t = c in
-    let l = (start t.before.before).requires in
-    ways.run-refused l.checked l.accepted (bytes_of_run t.before.before) (not-false _ (sym t.run_fine.ensures ∙ not-true _ c.if-not-run_fine.true-raw))
+    let l = (start c.before.before).requires in
+    ways.run-refused l.checked l.accepted (bytes_of_run c.before.before) (not-false _ (sym c.run_fine.ensures ∙ not-true _ c.if-not-run_fine.true-raw))
     c.refused.ensures
 
 slice-aggregate-beliefs : tie.Need-slice_bounds-beliefs-end
@@ -121,8 +120,7 @@ refused-requires-2 c κs = search rules
 
 returns-2 : tie.Need-returns-then-sets-eq0
 returns-2 c =
-    let p = c in
-    ways.no_state (fine-run (fine p.before.before.before)) (believed p.before.before.before) c.if-sets-eq0.true c.refused-then-sets-eq0.ensures
+    ways.no_state (fine-run (fine c.before.before.before)) (believed c.before.before.before) c.if-sets-eq0.true c.refused-then-sets-eq0.ensures
 
 last-point-requires : tie.Need-last_point-i-requires
 last-point-requires c κs = search rules

@@ -18,17 +18,14 @@ index-requires c κs = search rules
 
 judge-items-requires : tie.Need-judge_items-requires
 judge-items-requires c κs =
-    let f = c in
-    asked f.reading_of-found.ensures f.if-found-ne0.false
+    asked c.reading_of-found.ensures c.if-found-ne0.false
 
 same_length : tie.Need-shape_of-scratch
 same_length c = search rules
 
 returns-2 : tie.Need-returns
 returns-2 c =
-    let i = c in
-    let f = i in
-    small-judged f.reading_of-found.ensures f.if-found-ne0.false i.index.ensures c.judge_items.ensures
+    small-judged c.reading_of-found.ensures c.if-found-ne0.false c.index.ensures c.judge_items.ensures
 
 pub check_small_spec : {M : Type 1} → statement M
 check_small_spec =

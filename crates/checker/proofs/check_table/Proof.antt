@@ -14,9 +14,8 @@ use Rattle.checker.proofs.check_table.Tie as tie
 
 returns : tie.Need-returns-then-table-lt-TABLE_LEN
 returns c =
-    let k = c in
     record {
-      bytes = each_of (λ x. x < 256) k.args.book.now 0 (λ i h. omega (arith, k.shared_slice_known-1.given i));
+      bytes = each_of (λ x. x < 256) c.args.book.now 0 (λ i h. omega (arith, c.shared_slice_known-1.given i));
       says = short c.if-table-lt-TABLE_LEN.true refl refl;
     }
 
@@ -25,9 +24,8 @@ reading-of-requires c κs = search rules
 
 returns-2 : tie.Need-returns-then-found-ne0
 returns-2 c =
-    let r = c in
-    let q = r.reading_of-found.ensures in
-    table-says (refused_of q c.if-found-ne0.true refl) r.if-table-lt-TABLE_LEN.false (sym (when_faulty _ _ _ (fault_found q c.if-found-ne0.true).parsed))
+    let q = c.reading_of-found.ensures in
+    table-says (refused_of q c.if-found-ne0.true refl) c.if-table-lt-TABLE_LEN.false (sym (when_faulty _ _ _ (fault_found q c.if-found-ne0.true).parsed))
 
 fill-table-requires : tie.Need-fill_table-requires
 fill-table-requires c κs = search rules

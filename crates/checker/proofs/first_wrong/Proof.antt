@@ -232,11 +232,10 @@ below-requires c κs = search rules
 
 loop-holds : tie.Need-loop-starts-init invariant-loop2 decreases-loop2 invariant-loop decreases-loop invariant-items decreases-items
 loop-holds c =
-    let i = c in
-    let e = mask_of c.below-starts.ensures ∙ ap (λ (x : StateSet). x.mask % 2 ^ n_of i.before.before) c.of.ensures in (
-      (read i.before.before).items.invariant.0,
-      rw e (mod-lt i.psi-psi.result (pow_pos (n_of i.before.before))),
-      none_passed (device i.before.before) (item_of i.before.before) _ _ i.psi-psi.result (i.psi-psi.ensures ∙ ap (λ (x : Item). x.psi) (held i.before.before)) e,
+    let e = mask_of c.below-starts.ensures ∙ ap (λ (x : StateSet). x.mask % 2 ^ n_of c.before.before) c.of.ensures in (
+      (read c.before.before).items.invariant.0,
+      rw e (mod-lt c.psi-psi.result (pow_pos (n_of c.before.before))),
+      none_passed (device c.before.before) (item_of c.before.before) _ _ c.psi-psi.result (c.psi-psi.ensures ∙ ap (λ (x : Item). x.psi) (held c.before.before)) e,
     )
 
 is-empty-requires : tie.Need-is_empty-requires invariant-loop2 decreases-loop2 invariant-loop decreases-loop invariant-items decreases-items
@@ -253,10 +252,9 @@ add-requires c κs = search rules
 
 loop2-holds : tie.Need-loop-j-init invariant-loop2 decreases-loop2 invariant-loop decreases-loop invariant-items decreases-items
 loop2-holds c =
-    let k = c in
-    let i = judged k.before.before in (
+    let i = judged c.before.before in (
       omega arith,
-      reach-start (device i) (start k.before.before) (item_of i).forward _ _ _ _ (omega (arith, low k.before.before, few i)) c.of-in-loop-starts.ensures c.add-ends.ensures
+      reach-start (device i) (start c.before.before) (item_of i).forward _ _ _ _ (omega (arith, low c.before.before, few i)) c.of-in-loop-starts.ensures c.add-ends.ensures
           (rw (sub-zero (parts i).k) (forward-is i)),
     )
 
@@ -272,12 +270,11 @@ loop2-less c = omega arith
 loop2-again : tie.Need-loop-j-preserved invariant-loop2 decreases-loop2 invariant-loop decreases-loop invariant-items decreases-items
 loop2-again c =
     let v = c.loop-j in
-    let k = c in
-    let i = judged k.before.before.before.before.before in
+    let i = judged c.before.before.before.before.before in
     let t = c.loop-j-test.true in
     let more : (parts i).k - v.j ≡ suc ((parts i).k - (v.j + 1)) = omega arith in (
       omega arith,
-      reach-next (device i) (start k.before.before.before.before.before) (item_of i).forward v.ends.mask _ _ _ v.rest (few i) (begun i).requires.1 more v.invariant.1 (mask_of c.after-ends.ensures),
+      reach-next (device i) (start c.before.before.before.before.before) (item_of i).forward v.ends.mask _ _ _ v.rest (few i) (begun i).requires.1 more v.invariant.1 (mask_of c.after-ends.ensures),
     )
 
 within-requires : tie.Need-within-ends-requires invariant-loop2 decreases-loop2 invariant-loop decreases-loop invariant-items decreases-items
@@ -301,9 +298,8 @@ add-units-3 c =
 
 sub-units : tie.Need-overflow_sub-units invariant-loop2 decreases-loop2 invariant-loop decreases-loop invariant-items decreases-items
 sub-units c =
-    let r = c in
-    let k = at_start_lem (run-from r.before.before.before.before) in
-    omega (arith, run-back r.before.before.before.before, back_few (device (judged k)) (run-from r.before.before.before.before).within-ends.result.mask (item_of (judged k)).reverse (start k), r_is (judged k))
+    let k = at_start_lem (run-from c.before.before.before.before) in
+    omega (arith, run-back c.before.before.before.before, back_few (device (judged k)) (run-from c.before.before.before.before).within-ends.result.mask (item_of (judged k)).reverse (start k), r_is (judged k))
 
 without-lowest-requires : tie.Need-without_lowest-starts-requires invariant-loop2 decreases-loop2 invariant-loop decreases-loop invariant-items decreases-items
 without-lowest-requires c κs = search rules
@@ -320,21 +316,19 @@ loop-less c = starts-fall (judged-at c.before.before) _ (mask_of c.without_lowes
 
 loop-again : tie.Need-loop-starts-preserved invariant-loop2 decreases-loop2 invariant-loop decreases-loop invariant-items decreases-items
 loop-again c =
-    let j = c in
-    let k = judged-at j.before.before in
+    let k = judged-at c.before.before in
     let i = judged k in
-    let r = j in
     let g = mask_of c.without_lowest-starts.ensures in
     let e = g ∙ ap (without (rest k)) (sym k.lowest-start.ensures) in
-    let empty = j.is_empty-in-loop-starts.ensures in (
+    let empty = c.is_empty-in-loop-starts.ensures in (
       (loop k).loop-starts.invariant.0,
       omega (arith, starts-fall k _ g, (loop k).loop-starts.invariant.1),
       ⊎_elim
           (λ q. subst⁻¹ (Passed (device i) (item_of i) _ _ _ _) q.used-is
-          (start_back (device i) (item_of i) _ _ _ _ (passed k) (few i) (low k) _ _ (ended (run-from r.before.before.before.before)) (run-back r.before.before.before.before) _ _ _ e refl (all_units i _)
+          (start_back (device i) (item_of i) _ _ _ _ (passed k) (few i) (low k) _ _ (ended (run-from c.before.before.before.before)) (run-back c.before.before.before.before) _ _ _ e refl (all_units i _)
           (sym empty ∙ not-true _ q.if-not-is_empty.true-raw) q.if-back-ne0.false))
           (λ q. subst⁻¹ (Passed (device i) (item_of i) _ _ _ _) q.used-is
-          (start_none (device i) (item_of i) _ _ _ _ (passed k) (few i) (low k) _ _ (ended (run-from r.before.before.before.before)) (run-back r.before.before.before.before) _ _ _ e refl (all_units i _)
+          (start_none (device i) (item_of i) _ _ _ _ (passed k) (few i) (low k) _ _ (ended (run-from c.before.before.before.before)) (run-back c.before.before.before.before) _ _ _ e refl (all_units i _)
           (sym empty ∙ not-false _ q.if-not-is_empty.false-raw)))
           c.if-not-is_empty.branch-raw,
     )
@@ -376,17 +370,15 @@ returns c =
 returns-2 : tie.Need-returns-then-back-ne0 invariant-loop2 decreases-loop2 invariant-loop decreases-loop invariant-items decreases-items
 returns-2 c =
     λ b a e q.
-    let j = c in
-    let k = judged-at j.before.before in
+    let k = judged-at c.before.before in
     let i = judged k in
-    let r = j in
-    let there = sym j.is_empty-in-loop-starts.ensures ∙ not-true _ c.if-not-is_empty.true-raw in
-    let units = (loop k).loop-starts.units + start_units (item_of i) + 1 - r.runs_on-back.result in
+    let there = sym c.is_empty-in-loop-starts.ensures ∙ not-true _ c.if-not-is_empty.true-raw in
+    let units = (loop k).loop-starts.units + start_units (item_of i) + 1 - c.runs_on-back.result in
     let (bad, m) =
     subst (λ x. (reverses (device i) x ≡ false) × (units ≡ made_of i + item_made (device i) x)) (is i b a e)
-    (start_fails (device i) (item_of i) _ _ _ _ (passed k) (few i) (low k) _ _ (ended (run-from r.before.before.before.before)) (run-back r.before.before.before.before) there c.if-back-ne0.true) in
+    (start_fails (device i) (item_of i) _ _ _ _ (passed k) (few i) (low k) _ _ (ended (run-from c.before.before.before.before)) (run-back c.before.before.before.before) there c.if-back-ne0.true) in
     found _ _ b a e _ _ (walk i b a e) q (read i).items-test.true NoReversePlan (not_reversed _ _ bad) _
-    (ap (λ (v : ℕ). v + 1 - r.runs_on-back.result) (all_units i (loop k).loop-starts.units) ∙ m)
+    (ap (λ (v : ℕ). v + 1 - c.runs_on-back.result) (all_units i (loop k).loop-starts.units) ∙ m)
 
 returns-3 : tie.Need-returns-then-not-used invariant-loop2 decreases-loop2 invariant-loop decreases-loop invariant-items decreases-items
 returns-3 c =

@@ -39,21 +39,19 @@ answer found j = with_units (on_judgement j.found refusal found) j.units
 
 returns : tie.Need-returns-in-AllAccepted
 returns c b a e same =
-    let f = c in
-    let found = f.args.found in
+    let found = c.args.found in
     c.with_units.ensures
-    ∙ sym (ap (λ (x : Judgement). with_units (on_judgement x refusal found) f.first_wrong-judged.result.units) c.in-AllAccepted.is)
-    ∙ ap (answer found) (f.first_wrong-judged.ensures b a e same)
+    ∙ sym (ap (λ (x : Judgement). with_units (on_judgement x refusal found) c.first_wrong-judged.result.units) c.in-AllAccepted.is)
+    ∙ ap (answer found) (c.first_wrong-judged.ensures b a e same)
 
 returns-2 : tie.Need-returns-in-Wrong
 returns-2 c b a e same =
-    let f = c in
-    let found = f.args.found in
-    let units = f.first_wrong-judged.result.units in
+    let found = c.args.found in
+    let units = c.first_wrong-judged.result.units in
     c.with_units-in-Wrong.ensures
     ∙ ap (λ (q : Reading). with_units q units) (c.refused.ensures ∙ ap (λ (k : ℕ). refusal k c.in-Wrong.place) c.code_of.ensures)
     ∙ sym (ap (λ (x : Judgement). with_units (on_judgement x refusal found) units) c.in-Wrong.is)
-    ∙ ap (answer found) (f.first_wrong-judged.ensures b a e same)
+    ∙ ap (answer found) (c.first_wrong-judged.ensures b a e same)
 
 pub judge_items_spec : {M : Type 1} → statement M
 judge_items_spec =

@@ -29,8 +29,7 @@ refused-requires-2 c κs = search rules
 
 returns : tie.Need-returns-then-i-gt32
 returns c =
-    let u = c in
-    as_long _ _ (bytes u.before.before.before.before) _ u.sum_up-sums.ensures _ c.in-Read.is c.if-i-gt32.true _ c.refused-then-i-gt32.ensures
+    as_long _ _ (bytes c.before.before.before.before) _ c.sum_up-sums.ensures _ c.in-Read.is c.if-i-gt32.true _ c.refused-then-i-gt32.ensures
 
 mul-t9 : tie.Need-overflow_mul-result
 mul-t9 c =
@@ -41,13 +40,11 @@ mul-t9 c =
 
 returns-2 : tie.Need-returns-in-Fault
 returns-2 c =
-    let u = c in
-    as_faulty _ _ (bytes u.before.before.before) _ u.sum_up-sums.ensures _ _ c.in-Fault.is _ c.refused.ensures
+    as_faulty _ _ (bytes c.before.before.before) _ c.sum_up-sums.ensures _ _ c.in-Fault.is _ c.refused.ensures
 
 returns-3 : tie.Need-returns-else-i-gt32
 returns-3 c =
-    let u = c in
-    as_fine _ _ (bytes u.before.before.before.before) _ u.sum_up-sums.ensures _ c.in-Read.is c.if-i-gt32.false
+    as_fine _ _ (bytes c.before.before.before.before) _ c.sum_up-sums.ensures _ c.in-Read.is c.if-i-gt32.false
 
 pub forecast_spec : {M : Type 1} → statement M
 forecast_spec =

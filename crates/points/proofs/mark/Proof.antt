@@ -44,23 +44,21 @@ loop-less c = omega arith
 
 loop-again : tie.Need-loop-j-preserved invariant-loop decreases-loop
 loop-again c =
-    let t = c in
-    let l = t in
-    let a = l.args in
-    let Next : List ℕ → Type 0 = λ (x : List ℕ). Marking a.item a.ahead.now a.sets.now a.a (l.loop-j.j + 1) a.rows.now x in (
+    let a = c.args in
+    let Next : List ℕ → Type 0 = λ (x : List ℕ). Marking a.item a.ahead.now a.sets.now a.a (c.loop-j.j + 1) a.rows.now x in (
       ⊎_elim
           (λ w.
           subst Next (sym w.rows-is)
-          (mark_in a.item a.ahead.now a.sets.now a.a a.rows.now l.loop-j.invariant.0 _ t.fits_at.ensures w.if-fits_at.true (omega arith) (omega arith)))
+          (mark_in a.item a.ahead.now a.sets.now a.a a.rows.now c.loop-j.invariant.0 _ c.fits_at.ensures w.if-fits_at.true (omega arith) (omega arith)))
           (λ w.
           subst Next (sym w.rows-is)
-          (mark_out a.item a.ahead.now a.sets.now a.a a.rows.now l.loop-j.invariant.0 _ t.fits_at.ensures w.if-fits_at.false))
+          (mark_out a.item a.ahead.now a.sets.now a.a a.rows.now c.loop-j.invariant.0 _ c.fits_at.ensures w.if-fits_at.false))
           c.if-fits_at.branch-raw,
       omega arith,
     )
 
 returns : tie.Need-returns invariant-loop decreases-loop
-returns c = let l = c in let a = l.args in mark_end a.item a.ahead.now a.sets.now a.a a.rows.now l.loop-j.invariant.0 (omega arith)
+returns c = let a = c.args in mark_end a.item a.ahead.now a.sets.now a.a a.rows.now c.loop-j.invariant.0 (omega arith)
 
 pub mark_spec : {M : Type 1} → statement M
 mark_spec =

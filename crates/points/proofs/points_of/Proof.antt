@@ -176,9 +176,8 @@ no-points-requires-3 c κs = search rules
 
 returns-3 : tie.Need-returns-then-item-lt1 invariant-loop decreases-loop invariant-loop2 decreases-loop2
 returns-3 c =
-    let p = c in
     record {
-      numbered = λ items points moving short. absurd (omega (arith, c.if-item-lt1.true, k_is p.before.before.before, moving (a p.before.before.before) p.loop-a-test.true));
+      numbered = λ items points moving short. absurd (omega (arith, c.if-item-lt1.true, k_is c.before.before.before, moving (a c.before.before.before) c.loop-a-test.true));
     }
 
 no-points-requires-4 : tie.Need-no_points-requires-then-item-gt8 invariant-loop decreases-loop invariant-loop2 decreases-loop2
@@ -186,9 +185,8 @@ no-points-requires-4 c κs = search rules
 
 returns-4 : tie.Need-returns-then-item-gt8 invariant-loop decreases-loop invariant-loop2 decreases-loop2
 returns-4 c =
-    let p = c in
     record {
-      numbered = λ items points moving short. absurd (omega (arith, c.if-item-gt8.true, k_is p.before.before.before.before.before, short (a p.before.before.before.before.before) p.loop-a-test.true));
+      numbered = λ items points moving short. absurd (omega (arith, c.if-item-gt8.true, k_is c.before.before.before.before.before, short (a c.before.before.before.before.before) c.loop-a-test.true));
     }
 
 cast-ks : tie.Need-overflow_cast-ks invariant-loop decreases-loop invariant-loop2 decreases-loop2
@@ -225,12 +223,11 @@ loop-less c = let p = read c.before.before.before in omega (arith, p.loop-a-test
 
 loop-again : tie.Need-loop-a-preserved invariant-loop decreases-loop invariant-loop2 decreases-loop2
 loop-again c =
-    let q = c in
-    let p = read q.before.before.before in
+    let p = read c.before.before.before in
     let t = (s p).args in (
-      one_listed (links (s p)) t.i (a p) _ _ q.asked_by.result _ t.sets.now (known p) (head p).loop-a.invariant.0 c.mark.ensures
-          (fit_is q.before.before.before _ (head p).look_ahead.ensures) (k_is p)
-          (q.price.ensures.0 ∙ ap (λ (x : Item). sum_of t.weights.now x.reverse) (item_is p)) (fair (kept q.before.before.before)),
+      one_listed (links (s p)) t.i (a p) _ _ c.asked_by.result _ t.sets.now (known p) (head p).loop-a.invariant.0 c.mark.ensures
+          (fit_is c.before.before.before _ (head p).look_ahead.ensures) (k_is p)
+          (c.price.ensures.0 ∙ ap (λ (x : Item). sum_of t.weights.now x.reverse) (item_is p)) (fair (kept c.before.before.before)),
       omega (arith, p.loop-a-test.true),
     )
 
@@ -253,13 +250,12 @@ add-best-2 : tie.Need-overflow_add-j-in-loop-j invariant-loop decreases-loop inv
 add-best-2 c = omega arith
 
 best-requires : tie.Need-best-choice-requires invariant-loop decreases-loop invariant-loop2 decreases-loop2
-best-requires c κs = let k = c in (omega (arith, within k.before.before.before, few-points (passed k.before.before.before).before), room k.before.before.before)
+best-requires c κs = (omega (arith, within c.before.before.before, few-points (passed c.before.before.before).before), room c.before.before.before)
 
 cast-fewest : tie.Need-overflow_cast-fewest invariant-loop decreases-loop invariant-loop2 decreases-loop2
 cast-fewest c =
     let r = c.best-choice in
-    let k = c in
-    omega (arith, (choice-is k.before.before.before.before.before).most, ap (λ (x : Choice). x.number) r.ensures)
+    omega (arith, (choice-is c.before.before.before.before.before).most, ap (λ (x : Choice). x.number) r.ensures)
 
 add-fewest : tie.Need-overflow_add-fewest invariant-loop decreases-loop invariant-loop2 decreases-loop2
 add-fewest c = omega arith
@@ -285,11 +281,10 @@ loop2-less c = omega arith
 loop2-again : tie.Need-loop-j-preserved invariant-loop decreases-loop invariant-loop2 decreases-loop2
 loop2-again c =
     let r = c.best-choice in
-    let k = c in
-    let l = k.loop-j in (
-      numbered_next (links (t k.before.before.before.before.before)) (moving k.before.before.before.before.before.before.before) l.j l.fewest l.items _ _ (omega (arith, within k.before.before.before.before.before, few-points (passed k.before.before.before.before.before).before)) l.invariant.0
-          (subst (λ (x : Choice). Chosen (links (t k.before.before.before.before.before)) l.fewest (up k.before.before.before.before.before) (t k.before.before.before.before.before).args.count x.number x.item) (sym r.ensures) (choice-is k.before.before.before.before.before)),
-      within k.before.before.before.before.before,
+    let l = c.loop-j in (
+      numbered_next (links (t c.before.before.before.before.before)) (moving c.before.before.before.before.before.before.before) l.j l.fewest l.items _ _ (omega (arith, within c.before.before.before.before.before, few-points (passed c.before.before.before.before.before).before)) l.invariant.0
+          (subst (λ (x : Choice). Chosen (links (t c.before.before.before.before.before)) l.fewest (up c.before.before.before.before.before) (t c.before.before.before.before.before).args.count x.number x.item) (sym r.ensures) (choice-is c.before.before.before.before.before)),
+      within c.before.before.before.before.before,
     )
 
 returns-5 : tie.Need-returns invariant-loop decreases-loop invariant-loop2 decreases-loop2

@@ -31,7 +31,7 @@ r_is : (c : tie.Start invariant-loop decreases-loop) → length (commands c) ≡
 r_is c = let p = c.args.item in length-piece p.r c.args.book.now p.reverse
 
 loop-holds : tie.Need-loop-x-init invariant-loop decreases-loop
-loop-holds c = let s = c in sum-start s.args.weights.now (commands s.before.before)
+loop-holds c = sum-start c.args.weights.now (commands c.before.before)
 
 add-byte-at : tie.Need-overflow_add-item invariant-loop decreases-loop
 add-byte-at c = search rules
@@ -63,9 +63,8 @@ loop-again c =
 
 returns : tie.Need-returns invariant-loop decreases-loop
 returns c =
-    let l = c in
-    let s = start l.before in
-    (sum-all _ (commands s) l.loop-x.invariant (omega (arith, r_is s)), omega (arith, l.loop-x.invariant.low, l.loop-x.invariant.within, r_is s, s.requires.0))
+    let s = start c.before in
+    (sum-all _ (commands s) c.loop-x.invariant (omega (arith, r_is s)), omega (arith, c.loop-x.invariant.low, c.loop-x.invariant.within, r_is s, s.requires.0))
 
 pub price_spec : {M : Type 1} → statement M
 price_spec =

@@ -54,13 +54,12 @@ enum-known-next c = search rules
 
 returns : tie.Need-returns-in-Ended invariant-loop decreases-loop
 returns c =
-    let p = c in
-    let r = p.past_moves-reached.result in
-    let s = p.args.book.now in
-    let v = past p.before.before.before in
+    let r = c.past_moves-reached.result in
+    let s = c.args.book.now in
+    let v = past c.before.before.before in
     let t = subst (λ (x : Turn). Turned s r.at r.st x) c.in-Ended.is c.turn_at-next.ensures in
     let e = sym v.0 ∙ t.0 in
-    (sym e, (t.1, λ k. summed s r.at p.loop-seen.tally c.in-Ended.seen v.3 (v.4 k) e t.1 t.2))
+    (sym e, (t.1, λ k. summed s r.at c.loop-seen.tally c.in-Ended.seen v.3 (v.4 k) e t.1 t.2))
 
 enum-known-next-2 : tie.Need-enum_known-next-in-Going-1 invariant-loop decreases-loop
 enum-known-next-2 c = search rules
@@ -73,8 +72,7 @@ onward : (c : tie.In-Going invariant-loop decreases-loop)
     → Onward c.args.book.now c.past_moves-reached.result.at
     c.past_moves-reached.result.st c.in-Going.after c.in-Going.place
 onward c =
-    let p = c in
-    subst (λ (x : Turn). Turned p.args.book.now p.past_moves-reached.result.at p.past_moves-reached.result.st x) c.in-Going.is
+    subst (λ (x : Turn). Turned c.args.book.now c.past_moves-reached.result.at c.past_moves-reached.result.st x) c.in-Going.is
     c.turn_at-next.ensures
 
 loop-less : tie.Need-loop-seen-smaller invariant-loop decreases-loop
@@ -85,9 +83,8 @@ loop-less c =
 loop-again : tie.Need-loop-seen-preserved invariant-loop decreases-loop
 loop-again c =
     let t = onward c.before in
-    let p = c in
-    let s = p.args.book.now in
-    let v = past p.before.before.before.before in
+    let s = c.args.book.now in
+    let v = past c.before.before.before.before in
     let o = c.with_record-tally.ensures in (
       sym t.same ∙ v.0,
       t.limits,

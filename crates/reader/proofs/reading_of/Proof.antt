@@ -27,14 +27,12 @@ enum-known-seen-2 c = search rules
 
 returns : tie.Need-returns-in-Fault
 returns c =
-    let j = c in
-    faulty_of _ (bytes j.before.before.before) (fault_found _ _ _ (sym j.judge-seen.ensures.0 ∙ c.in-Fault.is)) c.refused.ensures
+    faulty_of _ (bytes c.before.before.before) (fault_found _ _ _ (sym c.judge-seen.ensures.0 ∙ c.in-Fault.is)) c.refused.ensures
 
 returns-2 : tie.Need-returns-in-Read
 returns-2 c =
-    let j = c in
-    let f = found _ c.in-Read.st (bytes j.before.before) (sym j.judge-seen.ensures.0 ∙ c.in-Read.is) in
-    book_of_lem _ (bytes j.before.before) f.parsed f.result
+    let f = found _ c.in-Read.st (bytes c.before.before) (sym c.judge-seen.ensures.0 ∙ c.in-Read.is) in
+    book_of_lem _ (bytes c.before.before) f.parsed f.result
 
 pub reading_of_spec : {M : Type 1} → statement M
 reading_of_spec =

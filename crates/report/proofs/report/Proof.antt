@@ -50,10 +50,7 @@ same_length c = search rules
 
 returns : tie.Need-returns
 returns c =
-    let l = c in
-    let a = l in
-    let m = a in
-    reported m.at_most-book_size.ensures m.at_most-run_size.ensures a.assemble-r.ensures l.lines.ensures.0 l.lines.ensures.1.0 l.lines.ensures.1.1
+    reported c.at_most-book_size.ensures c.at_most-run_size.ensures c.assemble-r.ensures c.lines.ensures.0 c.lines.ensures.1.0 c.lines.ensures.1.1
 
 pub report_spec : {M : Type 1} → statement M
 report_spec =

@@ -15,9 +15,8 @@ enum_told c = search rules
 
 returns : tie.Need-returns-then-st-eq0
 returns c =
-    let k = c in
-    let a = k.args in
-    (over_empty a.s.now a.at a.st (told a.s.now a.at k.in-Over.is k.head_at-head.ensures) c.if-st-eq0.true, tt, tt)
+    let a = c.args in
+    (over_empty a.s.now a.at a.st (told a.s.now a.at c.in-Over.is c.head_at-head.ensures) c.if-st-eq0.true, tt, tt)
 
 enum-told-2 : tie.Need-enum_told-in-Short
 enum-told-2 c = search rules
@@ -33,9 +32,8 @@ add-record-step-2 c = search rules
 
 add-record-step-3 : tie.Need-overflow_add-at-in-Whole-2
 add-record-step-3 c =
-    let k = c in
-    let a = k.args in
-    let h = stood a.s.now a.at k.in-Whole.is k.head_at-head.ensures in
+    let a = c.args in
+    let h = stood a.s.now a.at c.in-Whole.is c.head_at-head.ensures in
     omega (arith, h.within)
 
 sub-record-step : tie.Need-slice_bounds-record_step-count
@@ -46,9 +44,8 @@ part-record-step-start c = search rules
 
 part-record-step-end : tie.Need-slice_bounds-record_step-end
 part-record-step-end c =
-    let k = c in
-    let a = k.args in
-    let h = stood a.s.now a.at k.in-Whole.is k.head_at-head.ensures in
+    let a = c.args in
+    let h = stood a.s.now a.at c.in-Whole.is c.head_at-head.ensures in
     omega (arith, h.within)
 
 record-step-requires : tie.Need-record_step-step-requires
@@ -62,9 +59,8 @@ add-t25 c = search rules
 
 add-t26 : tie.Need-overflow_add-result-in-Go
 add-t26 c =
-    let k = c in
-    let a = k.args in
-    let h = stood a.s.now a.at k.in-Whole.is k.head_at-head.ensures in
+    let a = c.args in
+    let h = stood a.s.now a.at c.in-Whole.is c.head_at-head.ensures in
     omega (arith, h.within)
 
 enum-known-step-2 : tie.Need-enum_known-step-in-Stop-1
@@ -72,11 +68,9 @@ enum-known-step-2 c = search rules
 
 returns-2 : tie.Need-returns-else-st-eq0
 returns-2 c =
-    let k = c in
-    let e = k in
-    let a = e.args in
-    let t = told a.s.now a.at k.in-Over.is k.head_at-head.ensures in
-    (over_end a.s.now a.at a.st t c.if-st-eq0.false, e.requires.0, t)
+    let a = c.args in
+    let t = told a.s.now a.at c.in-Over.is c.head_at-head.ensures in
+    (over_end a.s.now a.at a.st t c.if-st-eq0.false, c.requires.0, t)
 
 returns-3 : tie.Need-returns-in-Short
 returns-3 c =
@@ -85,20 +79,16 @@ returns-3 c =
 
 returns-4 : tie.Need-returns-in-Go
 returns-4 c =
-    let k = c in
-    let a = k.args in
-    let h = stood a.s.now a.at k.in-Whole.is k.head_at-head.ensures in
-    let g = c in
-    goes a.s.now a.at a.st k.in-Whole.len k.in-Whole.kind h g.record_step-step.result g.record_step-step.ensures.0 c.in-Go.next c.in-Go.is
-    (subst Bounded c.in-Go.is g.record_step-step.ensures.1)
+    let a = c.args in
+    let h = stood a.s.now a.at c.in-Whole.is c.head_at-head.ensures in
+    goes a.s.now a.at a.st c.in-Whole.len c.in-Whole.kind h c.record_step-step.result c.record_step-step.ensures.0 c.in-Go.next c.in-Go.is
+    (subst Bounded c.in-Go.is c.record_step-step.ensures.1)
 
 returns-5 : tie.Need-returns-in-Stop
 returns-5 c =
-    let k = c in
-    let a = k.args in
-    let h = stood a.s.now a.at k.in-Whole.is k.head_at-head.ensures in
-    let g = c in
-    (stops a.s.now a.at a.st k.in-Whole.len k.in-Whole.kind h g.record_step-step.result g.record_step-step.ensures.0 c.in-Stop.code c.in-Stop.is, tt, tt)
+    let a = c.args in
+    let h = stood a.s.now a.at c.in-Whole.is c.head_at-head.ensures in
+    (stops a.s.now a.at a.st c.in-Whole.len c.in-Whole.kind h c.record_step-step.result c.record_step-step.ensures.0 c.in-Stop.code c.in-Stop.is, tt, tt)
 
 pub turn_at_spec : {M : Type 1} → statement M
 turn_at_spec =

@@ -1,10 +1,12 @@
 -- A number and its bytes: each undoes the other. Assumes nothing.
-use mathlib.Core.Path.{◌≡◌, refl, ap}
+use mathlib.Core.Path.{◌≡◌, refl, sym, ap, ◌∙◌}
 use mathlib.Core.List.{List, [], ◌∷◌}
 use Prim.Native.Nat.{ℕ, zero, suc, ◌+◌, ◌*◌, ◌/◌, ◌%◌, ◌^◌, ◌<◌}
 use native.Mathlib.Nat.{pow-suc}
 use native.Mathlib.Omega.{arith}
-use lib.ListN.{length}
+use lib.ListN.{length, get_or}
+use Rattle.std.specs.Int.{w16, w64, from_le_bytes, to_le_bytes}
+use Rattle.std.proofs.lemmas.Nat.{le_bytes_8}
 use Rattle.base.specs.Lists.{Each}
 use Rattle.octets.specs.Le.{bytes_le}
 use Rattle.octets.specs.Parts.{le}
@@ -37,3 +39,32 @@ bytes_le-le (suc n) (b ∷ l) e h =
     let p : (b + 256 * le l) % 256 ≡ b = omega arith in
     let q : (b + 256 * le l) / 256 ≡ le l = omega arith in
     rw (p, q, bytes_le-le n l (omega arith) h.1)
+
+-- each of them is a byte
+pub bytes-small : (n v i : ℕ) → get_or (bytes_le n v) i 0 < 256
+unfolding bytes_le
+bytes-small zero v i = omega arith
+bytes-small (suc n) v zero = omega arith
+bytes-small (suc n) v (suc i) = bytes-small n (v / 256) i
+
+-- the library's number of 2 and of 8 bytes, and its bytes of a number
+pub from-two : (l : List ℕ) → length l ≡ 2 → from_le_bytes w16 l ≡ le l
+from-two [] e = absurd (omega arith)
+from-two (a ∷ []) e = absurd (omega arith)
+from-two (a ∷ b ∷ []) e = omega arith
+from-two (a ∷ b ∷ c ∷ l) e = absurd (omega arith)
+
+pub from-eight : (l : List ℕ) → length l ≡ 8 → from_le_bytes w64 l ≡ le l
+from-eight [] e = absurd (omega arith)
+from-eight (a ∷ []) e = absurd (omega arith)
+from-eight (a ∷ b ∷ []) e = absurd (omega arith)
+from-eight (a ∷ b ∷ c ∷ []) e = absurd (omega arith)
+from-eight (a ∷ b ∷ c ∷ d ∷ []) e = absurd (omega arith)
+from-eight (a ∷ b ∷ c ∷ d ∷ f ∷ []) e = absurd (omega arith)
+from-eight (a ∷ b ∷ c ∷ d ∷ f ∷ g ∷ []) e = absurd (omega arith)
+from-eight (a ∷ b ∷ c ∷ d ∷ f ∷ g ∷ h ∷ []) e = absurd (omega arith)
+from-eight (a ∷ b ∷ c ∷ d ∷ f ∷ g ∷ h ∷ i ∷ []) e = omega arith
+from-eight (a ∷ b ∷ c ∷ d ∷ f ∷ g ∷ h ∷ i ∷ j ∷ l) e = absurd (omega arith)
+
+pub to-eight : (v : ℕ) → v < 2 ^ 64 → to_le_bytes w64 v ≡ bytes_le 8 v
+to-eight v h = le_bytes_8 (bytes_le 8 v) v (length-bytes_le 8 v) (bytes-small 8 v) (sym (from-eight (bytes_le 8 v) (length-bytes_le 8 v) ∙ le-bytes_le 8 v (omega arith)))

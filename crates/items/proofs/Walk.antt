@@ -17,7 +17,9 @@ use Rattle.book.specs.Book.{Move, Book, AllowedBook, Rec, frame, framed, move_re
 use Rattle.octets.proofs.Le.{length-bytes_le}
 use Rattle.book.proofs.Bodies.{first-eight}
 use Rattle.book.proofs.Scanning.{length-frame}
-use Rattle.items.specs.Items.{MovesBegin, Begins, ItemStands}
+use Rattle.std.specs.Prelude.{Some, None}
+use Rattle.items.specs.declared.Parts.{Parts}
+use Rattle.items.specs.Items.{MovesBegin, Begins, ItemStands, ItemComes, MoveComes}
 
 -- ---- the kind of a record
 module _ (s : List ℕ) (at : ℕ) where
@@ -55,23 +57,14 @@ unfolding bytes_le
 no_move [] s at e k = omega (arith, no_kind s at e)
 no_move (x ∷ xs) s at e k = omega (arith, kind_at s at (item_rec x) (framed (map item_rec xs)) e)
 
--- where no move stands, none is left
+-- where no whole record of a move stands, none is left
 pub none_left : (left : List Move) (items : List Item) (s : List ℕ) (at : ℕ) → drop at s ≡ framed (map move_rec left ++ map item_rec items)
-    → (le_at 2 s (at + 2) ≡ 2 → ⊥) → left ≡ []
+    → (at + 14 ≤ length s → le_at 2 s (at + 2) ≡ 2 → ⊥) → left ≡ []
 unfolding bytes_le
 none_left [] items s at e k = refl
-none_left (x ∷ xs) items s at e k = absurd (k (kind_at s at (move_rec x) (framed (map move_rec xs ++ map item_rec items)) e))
-
--- a number that is read and is not 0 does not lie past the end
-pub inside : (s : List ℕ) (p x : ℕ) → x ≡ le_at 2 s p → x ≡ 2 → p < length s
-inside s p x e h = go (dec_lt p (length s))
-  where
-    past : length s ≤ p → le_at 2 s p ≡ 0
-    past l = let d : drop p s ≡ [] = drop_of_length-le s l in rw d
-
-    go : Dec (p < length s) → p < length s
-    go (yes l) = l
-    go (no f) = absurd (omega (arith, past (omega arith)))
+none_left (x ∷ xs) items s at e k =
+    let t = framed (map move_rec xs ++ map item_rec items) in
+    absurd (k (move-inside s at x t e) (kind_at s at (move_rec x) t e))
 
 -- ---- to the first item: the moves that are left
 pub record Before (s : List ℕ) (b : Book) (at : ℕ) : Type 0 where
@@ -89,16 +82,16 @@ module _ {s : List ℕ} {b : Book} {at : ℕ} (g : Before s b at) where
       go [] r = absurd (no_move (items_of b) s at r k)
       go (x ∷ xs) r = record { left = xs; rest = past-move s at x (framed (map move_rec xs ++ map item_rec (items_of b))) r }
 
-  -- no record has room
-  pub at_end_lem : length s < at + 4 → Begins s b 0 at
-  at_end_lem h = go g.left g.rest
-    where
-      go : (left : List Move) → drop at s ≡ framed (map move_rec left ++ map item_rec (items_of b)) → Begins s b 0 at
-      go [] r = r
-      go (x ∷ xs) r = absurd (omega (arith, move-inside s at x (framed (map move_rec xs ++ map item_rec (items_of b))) r))
+  pub past_moves : (at + 14 ≤ length s → le_at 2 s (at + 2) ≡ 2 → ⊥) → Begins s b 0 at
+  past_moves k = rw (none_left g.left (items_of b) s at g.rest k) at g.rest
 
-  pub at_first : (le_at 2 s (at + 2) ≡ 2 → ⊥) → Begins s b 0 at
-  at_first k = rw (none_left g.left (items_of b) s at g.rest k) at g.rest
+-- the walk of `MoveRecords`
+module _ {s u u' : List ℕ} {b : Book} {at at' : ℕ} (same : u ≡ s) (g : Before s b at) where
+  pub move-comes : {x : ℕ} → MoveComes u at (Some x) u' at' → Before s b at'
+  move-comes m = rw m.1.3 (next-move g (rw same at m.1.2))
+
+  pub none-comes : MoveComes u at None u' at' → Begins s b 0 at'
+  none-comes m = rw m.1.1 (past_moves g (rw same at m.1.0))
 
 -- ---- from item to item: item i stands where the walk is
 module _ {s : List ℕ} {b : Book} {i at : ℕ} (a : AllowedBook b) (e : bytes_of b ≡ s) (known : i ≤ length (items_of b)) (here : Begins s b i at) where
@@ -156,3 +149,17 @@ module _ {s : List ℕ} {b : Book} {places : List ℕ} {i at : ℕ} (a : Allowed
 
   pub most_passed : 64 ≤ i → (j : ℕ) → j < length (items_of b) → Begins s b j (get_or places j 0)
   most_passed h j k = w.before j (omega (arith, a.few))
+
+-- the walk of `ItemRecords`, of which n more records are taken
+module _ {s u u' places : List ℕ} {b : Book} {i at at' : ℕ} (a : AllowedBook b) (e : bytes_of b ≡ s) (same : u ≡ s) (w : Passed s b places i at) where
+  pub item-comes : {p : ℕ} {x : Parts} → ItemComes u at (Some (p, x)) u' at' → i < length places → Passed s b (set places i p) (i + 1) at'
+  item-comes m l =
+      let o = rw same at m.1.2 in
+      rw (m.1.1, m.1.3) (one_passed a e w o.next (rw same at m.1.0) l)
+
+  pub no_item : (n : ℕ) → i + n ≡ 64 → (0 < n → ItemComes u at None u' at') → (j : ℕ) → j < length (items_of b) → Begins s b j (get_or places j 0)
+  no_item n c f = go (dec_lt 0 n)
+    where
+      go : Dec (0 < n) → (j : ℕ) → j < length (items_of b) → Begins s b j (get_or places j 0)
+      go (yes l) = ends_passed a e w (rw same at (f l).1.0)
+      go (no l) = most_passed a e w (omega arith)

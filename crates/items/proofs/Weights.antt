@@ -109,8 +109,8 @@ module _ (s : List ℕ) (x : ℕ) (e : x ≡ le_at 2 s 8) where
   pub no_record : (x ≡ 5 → ⊥) → FirstMove s 6
   no_record k = record { begins = λ b a q. (plain s b a q (λ z. k (e ∙ z))).1 }
 
-  pub some-weights : x ≡ 5 → (c r : ℕ) → r ≡ le_at 2 s (10 + 2 * c) → WeightAt s c r
-  some-weights k c r f = record { weight = λ b a q h. f ∙ weight_in s b a q (sym e ∙ k) c h }
+  pub some_weights : x ≡ 5 → (c r : ℕ) → r ≡ le_at 2 s (10 + 2 * c) → WeightAt s c r
+  some_weights k c r f = record { weight = λ b a q h. f ∙ weight_in s b a q (sym e ∙ k) c h }
 
   pub some_record : x ≡ 5 → (n : ℕ) → n ≡ le_at 2 s 6 → FirstMove s (10 + n)
   some_record k n f = record { begins = λ b a q. rw f (moves_at s b a q (sym e ∙ k)) }

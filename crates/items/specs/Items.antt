@@ -1,5 +1,5 @@
 -- The weights, moves and items in a book's bytes, for every allowed book whose bytes these are. Assumes nothing: these are definitions.
-use Rattle.std.specs.Prelude.{◌≡◌, List, ◌++◌, map, ℕ, ◌+◌, ◌≤◌, ◌<◌, length, get_or, drop}
+use Rattle.std.specs.Prelude.{◌≡◌, List, ◌++◌, map, ℕ, ◌+◌, ◌≤◌, ◌<◌, length, get_or, drop, Option, MatchOption}
 use Rattle.reversal.specs.Reversal.{Item}
 use Rattle.octets.specs.Parts.{le_at, piece}
 use Rattle.book.specs.Book.{Book, AllowedBook, bytes_of, framed, move_rec, item_rec, items_of}
@@ -62,6 +62,19 @@ pub record PartsAt (s : List ℕ) (at : ℕ) (p : Parts) : Type 0 where
   pub held : held_in s p ≡ item_in s at
   pub inside : (p.forward + p.k ≤ p.next) × (p.reverse + p.r ≤ p.next)
   pub next : {b : Book} {i : ℕ} → ItemStands s b i at → Begins s b (i + 1) p.next
+
+-- what `ItemRecords` gives of s from `at` on, and where it then stands, in s': the place and the parts of the record there, or nothing past the end
+abbrev pub ItemComes : List ℕ → ℕ → Option (ℕ × Parts) → List ℕ → ℕ → Type 0
+ItemComes s at r s' at' =
+    (s' ≡ s)
+    × MatchOption r ((length s ≤ at) × (at' ≡ at)) (λ x. (at < length s) × (x.0 ≡ at) × PartsAt s at x.1 × (at' ≡ x.1.next))
+
+-- what `MoveRecords` gives of s from `at` on, and where it then stands, in s': the place of the move's record there, or nothing where none stands
+abbrev pub MoveComes : List ℕ → ℕ → Option ℕ → List ℕ → ℕ → Type 0
+MoveComes s at r s' at' =
+    (s' ≡ s)
+    × MatchOption r ((at + 14 ≤ length s → le_at 2 s (at + 2) ≡ 2 → ⊥) × (at' ≡ at))
+    (λ x. (x ≡ at) × (at + 14 ≤ length s) × (le_at 2 s (at + 2) ≡ 2) × (at' ≡ at + 14))
 
 -- the contract of `first_item`
 pub record FirstItem (s : List ℕ) (r : ℕ) : Type 0 where

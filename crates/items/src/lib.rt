@@ -3,9 +3,18 @@
 // allowed book whose bytes these are.
 #![tactic(auto)]
 
-ghost use Rattle.std.specs.Prelude.{◌≡◌, ◌+◌, ◌<◌, ◌≤◌, length};
+ghost use Rattle.std.specs.Prelude.{◌≡◌, ◌+◌, ◌-◌, ◌<◌, ◌≤◌, length};
+ghost use Rattle.std.specs.Iterator.{at_most};
 ghost use Rattle.octets.specs.Parts.{le_at};
-ghost use Rattle.items.specs.Items.{WeightAt, FirstMove, held_in, PartsAt, FirstItem, Placed};
+ghost use Rattle.items.specs.Items.{WeightAt, FirstMove, held_in, PartsAt, ItemComes, MoveComes, FirstItem, Placed};
+
+// The kinds of the records of weights and of moves.
+pub const WEIGHTS_KIND: u64 = 5;
+
+pub const MOVE_KIND: u64 = 2;
+
+// The bytes of a move's record.
+pub const MOVE_LEN: usize = 14;
 
 // What is read of an item's record: the counts of its commands each way, the places where they and the two masks stand, and the place past the record.
 // `phi` and `psi` read the masks.
@@ -41,12 +50,12 @@ pub fn parts_at(book: &[u8], at: usize) -> Parts
     let masks = reverse + r;
     let next = masks + 16;
     Parts {
-        k: k,
-        r: r,
-        forward: forward,
-        reverse: reverse,
-        masks: masks,
-        next: next,
+        k,
+        r,
+        forward,
+        reverse,
+        masks,
+        next,
     }
 }
 
@@ -67,23 +76,56 @@ pub fn psi(book: &[u8], item: Parts) -> u64
     octets::u64_at(book, item.masks + 8)
 }
 
+// The items' records from a place on, one after the other: the place of each, and its parts.
+#[derive(Drop)]
+pub struct ItemRecords<'a> {
+    book: &'a [u8],
+    at: usize,
+}
+
+impl<'a> Iterator for ItemRecords<'a> {
+    type Item = (usize, Parts);
+
+    ghost next_gives = { λ s r t. ItemComes s.book.now s.at r t.book.now t.at };
+
+    ghost remaining = { λ s. at_most (length s.book.now - s.at) };
+
+    fn next(&mut self) -> Option<(usize, Parts)> {
+        let at = self.at;
+        if self.book.len() <= at {
+            return None;
+        }
+        let item = parts_at(self.book, at);
+        self.at = item.next;
+        Some((at, item))
+    }
+}
+
+pub fn records(book: &[u8], at: usize) -> ItemRecords
+    ensures { (result.book.now ≡ book.now) × (result.at ≡ at) }
+{
+    ItemRecords { book, at }
+}
+
 // The weight of a command: its two bytes in the record after the device, 1 where no record of weights stands there.
+#[tactic(auto, using(crate::proofs::Weights::no_weights, crate::proofs::Weights::some_weights))]
 pub fn weight_at(book: &[u8], command: u8) -> u64
     ensures weight_at { WeightAt book.now command result }
     ensures upper_bound { result < 65536 }
 {
-    if octets::u16_at(book, 8) != 5 {
+    if octets::u16_at(book, 8) != WEIGHTS_KIND {
         return 1;
     }
     octets::u16_at(book, 10 + 2 * command as usize)
 }
 
 // Where the first move's record begins, or the first item's where there is no move: past the device and the weights.
+#[tactic(auto, using(crate::proofs::Weights::no_record, crate::proofs::Weights::some_record))]
 pub fn first_move(book: &[u8]) -> usize
     ensures first_move { FirstMove book.now result }
     ensures upper_bound { result ≤ 65545 }
 {
-    if octets::u16_at(book, 8) != 5 {
+    if octets::u16_at(book, 8) != WEIGHTS_KIND {
         return 6;
     }
     10 + octets::u16_at(book, 6) as usize
@@ -99,22 +141,47 @@ fn kind_at(book: &[u8], at: usize) -> u64
     low + 256 * high
 }
 
+// The moves' records, one after the other: the place of each. `at` is where the next record begins, of a move or not.
+#[derive(Drop)]
+pub struct MoveRecords<'a> {
+    book: &'a [u8],
+    pub at: usize,
+    ghost in_book: { at ≤ length book.now },
+}
+
+impl<'a> Iterator for MoveRecords<'a> {
+    type Item = usize;
+
+    ghost next_gives = { λ s r t. MoveComes s.book.now s.at r t.book.now t.at };
+
+    ghost remaining = { λ s. at_most (length s.book.now - s.at) };
+
+    fn next(&mut self) -> Option<usize> {
+        let at = self.at;
+        if self.book.len() - at < MOVE_LEN || kind_at(self.book, at) != MOVE_KIND {
+            return None;
+        }
+        self.at += MOVE_LEN;
+        Some(at)
+    }
+}
+
+// Those of a book. No record of a move lies past the end.
+pub fn move_records(book: &[u8]) -> MoveRecords
+    ensures book { result.book.now ≡ book.now }
+    ensures first_move { FirstMove book.now result.at }
+{
+    let at = first_move(book).min(book.len());
+    MoveRecords { book, at }
+}
+
 // Where the first item's record begins, or the end where there is no item: past the moves.
 pub fn first_item(book: &[u8]) -> usize
     ensures { FirstItem book.now result }
 {
-    let mut at = first_move(book);
-    if book.len() < 4 {
-        return at;
-    }
-    let last = book.len() - 4;
-    while at <= last {
-        if kind_at(book, at) != 2 {
-            return at;
-        }
-        at = at + 14;
-    }
-    at
+    let mut moves = move_records(book);
+    while let Some(_) = moves.next() {}
+    moves.at
 }
 
 // Where each item's record begins, 0 from the number of items on. No book is so long that a place would take more than two bytes.
@@ -125,14 +192,8 @@ pub fn places(book: &[u8]) -> [u16; 64]
     if 65535 < book.len() {
         return places;
     }
-    let mut at = first_item(book);
-    for i in 0..64 {
-        if book.len() <= at {
-            return places;
-        }
+    for (i, (at, _)) in records(book, first_item(book)).take(64).enumerate() {
         places[i] = at as u16;
-        let item = parts_at(book, at);
-        at = item.next;
     }
     places
 }

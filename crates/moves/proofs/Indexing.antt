@@ -24,7 +24,8 @@ use Rattle.book.proofs.Fields.{mask_fits}
 use Rattle.book.proofs.Rising.{AllowedMoves}
 use Rattle.book.proofs.Scanning.{kept-moves}
 use Rattle.book.proofs.Largest.{length-book}
-use Rattle.items.specs.Items.{MovesBegin}
+use Rattle.std.specs.Prelude.{Some}
+use Rattle.items.specs.Items.{MovesBegin, MoveComes}
 use Rattle.items.proofs.Walk.{past-move, state_at, command_at_lem, mask_at_lem, move-inside, no_move, none_left}
 use Rattle.moves.specs.Moves.{mask_at, moved_to, with_move, move_added}
 use Rattle.moves.proofs.Rows.{moved_in, moved_none, added_in, kept_in, in_added, place_kept, place_added, place_next, row-stored}
@@ -210,8 +211,15 @@ module _ (s : List ℕ) (b : Book) (at : ℕ) (masks : List ℕ) (a : AllowedBoo
       go [] al r missed = absurd (no_move (items_of b) s at r k)
       go (x ∷ xs) al r missed = indexed_on x xs al r missed
 
+-- the next move that comes
+pub indexed-comes : {s u u' : List ℕ} {b : Book} {at x at' : ℕ} {masks masks' : List ℕ} → AllowedBook b → bytes_of b ≡ s → 64 ≤ length masks → u ≡ s
+    → Indexing s b at masks → MoveComes u at (Some x) u' at' → masks' ≡ move_added s x masks → Indexing s b at' masks'
+indexed-comes {s} {b = b} {at = at} {masks = masks} {masks' = masks'} a e room same g m added =
+    let inside = rw same at m.1.1 in
+    rw m.1.3 (indexed-move s b at masks a e room g (omega arith) masks' (rw m.1.0 at added) (rw same at m.1.2))
+
 -- ---- no move is left
-pub all-indexed : {s : List ℕ} {b : Book} {at : ℕ} {masks : List ℕ} → Indexing s b at masks → (le_at 2 s (at + 2) ≡ 2 → ⊥)
+pub all-indexed : {s : List ℕ} {b : Book} {at : ℕ} {masks : List ℕ} → Indexing s b at masks → (at + 14 ≤ length s → le_at 2 s (at + 2) ≡ 2 → ⊥)
     → (q c : ℕ) → q < b.n → moved_to s (get_or masks q 0) c ≡ outcome_of b.moves q c
 unfolding outcome_of
 all-indexed {s} {b} {at} {masks} g k q c l =

@@ -13,7 +13,7 @@ use Rattle.base.specs.Tests.{pick}
 use Rattle.base.specs.Compare.{less}
 use Rattle.base.specs.Cardinality.{member, cardinality}
 use Rattle.base.proofs.Tests.{pick_yes, pick_no}
-use Rattle.base.proofs.Picks.{pick_elim, less_yes, less_no}
+use Rattle.base.proofs.Picks.{pick_elim, less_yes}
 use Rattle.base.proofs.Compare.{less_on, less_off}
 use Rattle.base.proofs.Masks.{member_in, in_member, in_zero, shl_one, below_clear, or_in, in_or_l}
 use Rattle.base.proofs.Added.{cardinality-above, cardinality-zero, one_more_in, one_more_below, one_more_above}
@@ -71,13 +71,14 @@ module _ (row place c : ℕ) where
 
   -- as the code has it
   module _ (l : c < 32) where
-    pub row-begun : row < 65536 → bit_or place (1 * 2 ^ (16 + c) % 2 ^ 64) ≡ row'
+    pub row-begun : (x : ℕ) → (row < 65536 → x ≡ place) → (65536 ≤ row → x ≡ row) → bit_or x (1 * 2 ^ (16 + c) % 2 ^ 64) ≡ row'
     unfolding with_move
-    row-begun h = rw (shl_one (16 + c) (omega arith), begun-low h)
-
-    pub row_more : 65536 ≤ row → bit_or row (1 * 2 ^ (16 + c) % 2 ^ 64) ≡ row'
-    unfolding with_move
-    row_more h = rw (shl_one (16 + c) (omega arith), begun-high h)
+    row-begun x f g =
+        rw (shl_one (16 + c) (omega arith)) (ap (λ (y : ℕ). bit_or y (2 ^ (16 + c))) (is (dec_lt row 65536)))
+      where
+        is : Dec (row < 65536) → x ≡ begun
+        is (yes h) = f h ∙ sym (begun-low h)
+        is (no h) = g (omega arith) ∙ sym (begun-high (omega arith))
 
   module _ (small : place < 65536) where
     begun-commands : begun / 65536 ≡ row / 65536
@@ -134,14 +135,13 @@ module _ (row place c : ℕ) where
 
 -- ---- the masks with one move more, as the code has them
 module _ (s : List ℕ) (at : ℕ) (masks : List ℕ) (q c : ℕ) where
-  pub no_such_command : c ≡ get_or s (at + 5) 0 → 32 ≤ c → masks ≡ move_added s at masks
+  pub not-stored : q ≡ get_or s (at + 4) 0 → c ≡ get_or s (at + 5) 0 → (c < 32 → q < 64 → ⊥) → masks ≡ move_added s at masks
   unfolding move_added
-  no_such_command e h = less_no _ _ _ _ _ (rw e at h) refl
-
-  pub no_such_state : q ≡ get_or s (at + 4) 0 → 64 ≤ q → masks ≡ move_added s at masks
-  unfolding move_added
-  no_such_state e h =
-      pick_elim (λ (l : List ℕ). masks ≡ l) (less (get_or s (at + 5) 0) 32) _ masks (λ _. less_no _ _ _ _ _ (rw e at h) refl) (λ _. refl)
+  not-stored p e f =
+      pick_elim (λ (l : List ℕ). masks ≡ l) (less (get_or s (at + 5) 0) 32) _ masks
+      (λ k.
+      pick_elim (λ (l : List ℕ). masks ≡ l) (less (get_or s (at + 4) 0) 64) _ masks
+      (λ h. absurd (f (rw e (less_on (get_or s (at + 5) 0) 32 k)) (rw p (less_on (get_or s (at + 4) 0) 64 h)))) (λ _. refl)) (λ _. refl)
 
   pub row-stored : (r : ℕ) (masks' : List ℕ) → q ≡ get_or s (at + 4) 0 → c ≡ get_or s (at + 5) 0 → c < 32 → q < 64
       → r ≡ with_move (get_or masks q 0) (at + 6) c → masks' ≡ set masks q r → masks' ≡ move_added s at masks

@@ -5,28 +5,17 @@
 // 16 + c is 1 where the state has a move for command c.
 #![tactic(auto)]
 
-ghost use Rattle.std.specs.Prelude.{◌≡◌, ◌+◌, ◌<◌, ◌≤◌, min, length};
+ghost use Rattle.std.specs.Prelude.{◌≡◌, ◌+◌, ◌<◌, ◌≤◌, length};
 ghost use Rattle.base.specs.Cardinality.{cardinality};
 ghost use Rattle.book.specs.Buffers.{zeroed};
 ghost use Rattle.moves.specs.Moves.{moved_to, with_move, move_added, Indexed};
-
-// The smaller of two numbers.
-fn least(a: usize, b: usize) -> usize
-    ensures { result ≡ min a b }
-{
-    if a < b { a } else { b }
-}
 
 // Sets the first n masks to 0, as far as there are any.
 pub fn clear(masks: &mut [u64], n: usize)
     ensures { masks.new ≡ zeroed n masks.old }
 {
-    let end = least(n, masks.len());
-    let mut i: usize = 0;
-    while i < end {
-        masks[i] = 0;
-        i = i + 1;
-    }
+    let end = n.min(masks.len());
+    masks[..end].fill(0);
 }
 
 // A row with the command of a move whose outcome mask stands at a place: the place is put in where the row has no command yet.
@@ -34,11 +23,8 @@ fn with_move(row: u64, place: u64, command: u64) -> u64
     requires { command < 32 }
     ensures { result ≡ with_move row place command }
 {
-    let bit = 1 << (16 + command);
-    if row < 65536 {
-        return place | bit;
-    }
-    row | bit
+    let begun = if row < 65536 { place } else { row };
+    begun | 1 << (16 + command)
 }
 
 // The move whose record begins at a place, in its state's row. No book has a command from 32 on or a state from 64 on; the tests are for any bytes.
@@ -48,13 +34,9 @@ fn add_move(book: &[u8], at: usize, masks: &mut [u64])
 {
     let state = octets::byte_at(book, at + 4) as usize;
     let command = octets::byte_at(book, at + 5);
-    if 32 <= command {
-        return;
+    if command < 32 && state < 64 {
+        masks[state] = with_move(masks[state], (at + 6) as u64, command);
     }
-    if 64 <= state {
-        return;
-    }
-    masks[state] = with_move(masks[state], (at + 6) as u64, command);
 }
 
 // Fills the first 64 masks with the rows of an allowed book's states; the others stay, and so do fewer than 64. Other bytes leave something or other
@@ -66,10 +48,8 @@ pub fn index(book: &[u8], masks: &mut [u64])
         return;
     }
     clear(masks, 64);
-    let mut at = items::first_move(book);
-    while octets::u16_at(book, at + 2) == 2 {
+    for at in items::move_records(book) {
         add_move(book, at, masks);
-        at = at + 14;
     }
 }
 
@@ -84,17 +64,14 @@ fn count_below(set: u64, n: u64) -> u64
     if below == all {
         return n;
     }
-    u64::count_ones(below) as u64
+    u64::from(below.count_ones())
 }
 
 // The outcomes of a command by a state's row; 0 where the row does not have the command.
 pub fn outcomes(book: &[u8], row: u64, command: u64) -> u64
     ensures { result ≡ moved_to book.now row command }
 {
-    if 48 <= command {
-        return 0;
-    }
-    if (row >> (16 + command)) & 1 != 1 {
+    if 48 <= command || (row >> (16 + command)) & 1 != 1 {
         return 0;
     }
     let before = count_below(row >> 16, command);

@@ -1,9 +1,11 @@
 -- A slot read and stored part by part. Assumes nothing.
 use mathlib.Core.Path.{◌≡◌, refl, sym, ap, ◌∙◌, ap₂}
-use mathlib.Core.List.{List, [], ◌∷◌, ◌++◌, append_assoc}
-use Prim.Native.Nat.{ℕ, ◌+◌, ◌*◌, ◌/◌, ◌%◌, ◌≤◌, ◌<◌, ◌-◌}
+use mathlib.Core.List.{List, [], ◌∷◌, ◌++◌, append_assoc, append-nil}
+use Prim.Native.Nat.{ℕ, zero, suc, min, ◌+◌, ◌*◌, ◌/◌, ◌%◌, ◌≤◌, ◌<◌, ◌-◌}
+use native.Mathlib.Decide.{dec_lt}
 use native.Mathlib.Omega.{arith}
-use lib.ListN.{length, get_or, length-append}
+use lib.ListN.{length, get_or, set, take, drop, length-append, length-drop, drop_of_length-le}
+use Rattle.std.proofs.lemmas.List.{take_rest}
 use lib.Seq.{sets}
 use Rattle.base.specs.Lists.{Bytes}
 use Rattle.reversal.specs.Reversal.{Item}
@@ -11,7 +13,7 @@ use Rattle.reversal.specs.Chains.{item}
 use Rattle.octets.specs.Le.{bytes_le}
 use Rattle.octets.specs.Parts.{piece, le_at}
 use Rattle.octets.proofs.Le.{length-bytes_le}
-use Rattle.octets.proofs.Put.{first, then, length-piece, piece-get, Wrote, over, piece_split, bytes-piece}
+use Rattle.octets.proofs.Put.{sets_past, first, then, length-piece, piece-get, Wrote, over, piece_split, bytes-piece}
 use Rattle.book.specs.Book.{Book, items_of}
 use Rattle.book.specs.Lent.{padded, slot_of}
 use Rattle.book.specs.Slots.{item_at}
@@ -19,7 +21,7 @@ use Rattle.book.proofs.Slots.{length-padded}
 use Rattle.items.specs.declared.Parts.{Parts}
 use Rattle.items.specs.Items.{held_in, ItemStands, PartsAt}
 use Rattle.items.proofs.Laws.{allowed, item_is, k-held, r_held}
-use Rattle.slots.specs.Filled.{head_from, tail_from, SlotFilled}
+use Rattle.slots.specs.Filled.{SlotFilled}
 use Rattle.slots.specs.Stored.{parts_of, HasCounts}
 
 -- ---- the fields of the item in slot a
@@ -32,9 +34,9 @@ module _ (s : List ℕ) (a : ℕ) where
   unfolding item_at
   r_is r e = e ∙ sym (length-piece _ s (34 * a + 10))
 
-  pub reverse-is : (x r : ℕ) → r ≡ get_or s (34 * a + 10 + x) 0 → x < length (item_at s a).reverse → r ≡ get_or (item_at s a).reverse x 0
+  pub reverse_is : (x r : ℕ) → r ≡ get_or s (34 * a + 10 + x) 0 → x < length (item_at s a).reverse → r ≡ get_or (item_at s a).reverse x 0
   unfolding item_at
-  reverse-is x r e h =
+  reverse_is x r e h =
       let k = get_or s (34 * a + 1) 0 in
       e ∙ sym (piece-get k s (34 * a + 10) x (omega (arith, length-piece k s (34 * a + 10))))
 
@@ -76,6 +78,13 @@ module _ (s : List ℕ) (b : Bytes s) (a k r : ℕ) (c : HasCounts s a k r) (d�
       ∙ ap₂ (λ (i j : ℕ). sets d₀ 0 (f ++ x ++ bytes_le 8 i ++ bytes_le 8 j)) ep eq
 
 -- ---- a slot stored
+-- the slot of an item whose commands stand in s: counts k and r and the forward commands at p, then the reverse commands at p and the masks
+unfoldable pub head_from : List ℕ → ℕ → ℕ → ℕ → List ℕ
+head_from s k r p = k ∷ r ∷ padded (piece k s p)
+
+unfoldable pub tail_from : List ℕ → ℕ → ℕ → ℕ → ℕ → List ℕ
+tail_from s r p phi psi = padded (piece r s p) ++ (bytes_le 8 phi ++ bytes_le 8 psi)
+
 counts_put : (k r : ℕ) → k ≤ 8 → r ≤ 8 → bytes_le 2 (k + 256 * r) ≡ k ∷ r ∷ []
 unfolding bytes_le
 counts_put k r h l =
@@ -145,3 +154,34 @@ module _ {s : List ℕ} {at : ℕ} {p : Parts} (o : PartsAt s at p) (slots : Lis
 
     pub item-filled : SlotFilled s at slots a slots' p.next
     item-filled = record { past = o.past; slot = λ h. stored ∙ ap (sets slots (34 * a)) (slot_from h); next = o.next }
+
+-- ---- a slot stored in the rest of the row
+sets-cons : (x : ℕ) (l : List ℕ) (i : ℕ) (xs : List ℕ) → sets (x ∷ l) (suc i) xs ≡ x ∷ sets l i xs
+sets-cons x l i [] = refl
+sets-cons x l i (v ∷ xs) = sets-cons x (set l i v) (suc i) xs
+
+sets-rest : (l : List ℕ) (i : ℕ) (xs : List ℕ) → i ≤ length l → take i l ++ sets (drop i l) 0 xs ≡ sets l i xs
+sets-rest [] zero xs h = refl
+sets-rest [] (suc i) xs h = absurd (omega arith)
+sets-rest (x ∷ l) zero xs h = refl
+sets-rest (x ∷ l) (suc i) xs h = ap (λ (t : List ℕ). x ∷ t) (sets-rest l i xs (omega arith)) ∙ sym (sets-cons x l i xs)
+
+stored-in_rest : (l rest : List ℕ) (p i k : ℕ) (xs : List ℕ) → i ≡ min p (length l) → k ≡ length l - i → rest ≡ sets (take k (drop i l)) 0 xs
+    → take i l ++ (rest ++ drop k (drop i l)) ≡ sets l p xs
+stored-in_rest l rest p i k xs m n e =
+    let whole : take k (drop i l) ≡ drop i l = rw n (take_rest l i) in
+    let none : drop k (drop i l) ≡ [] = drop_of_length-le (drop i l) {i = k} (omega (arith, length-drop i l)) in
+    rw (e, whole, none, append-nil (sets (drop i l) 0 xs)) (sets-rest l i xs (omega arith) ∙ go (dec_lt p (length l)))
+  where
+    go : Dec (p < length l) → sets l i xs ≡ sets l p xs
+    go (yes h) = let q : i ≡ p = omega arith in rw q
+    go (no h) = sets_past l i xs (omega arith) ∙ sym (sets_past l p xs (omega arith))
+
+pub filled-in_rest : {s slots rest : List ℕ} {at a r i k : ℕ} → SlotFilled s at (take k (drop i slots)) 0 rest r → i ≡ min (34 * a) (length slots)
+    → k ≡ length slots - i → SlotFilled s at slots a (take i slots ++ (rest ++ drop k (drop i slots))) r
+filled-in_rest {slots = slots} {rest = rest} {a = a} {i = i} {k = k} o m n =
+    record {
+      past = o.past;
+      slot = λ {b} {i = j} h. stored-in_rest slots rest (34 * a) i k (slot_of (item (items_of b) j)) m n (o.slot h);
+      next = o.next;
+    }

@@ -4,11 +4,12 @@ use mathlib.Core.Bool.{true, not}
 use mathlib.Core.List.{List}
 use Prim.Native.Nat.{ℕ, zero, suc, ◌+◌, ◌-◌, ◌*◌, ◌^◌, ◌≤◌, ◌<◌}
 use native.Mathlib.Nat.{zero-add, add-zero, suc-add, pow-suc}
-use native.Mathlib.Decide.{dec_lt}
 use native.Mathlib.Omega.{arith}
 use borrow.Author.Tests.{ltb-true}
 use lib.Pow.{pow-add}
-use lib.ListN.{length, get_or}
+use lib.ListN.{length, get_or, take, drop, length-drop}
+use lib.Seq.{get_or-drop, get_or-take}
+use Rattle.std.proofs.Common.{length-take-le}
 use Rattle.base.specs.Lists.{Each}
 use Rattle.base.specs.Masks.{clear_from}
 use Rattle.base.proofs.Lists.{each_of}
@@ -42,15 +43,6 @@ bytes-power : (k : ℕ) → 2 ^ (8 * k) ≡ 256 ^ k
 bytes-power zero = refl
 bytes-power (suc k) = let e : 8 * suc k ≡ 8 * k + 8 = omega arith in rw (e, pow-add 2 (8 * k) 8, pow-suc 256 k, bytes-power k)
 
--- ---- the largest byte so far
-pub all_so_far_lem : (s : List ℕ) (p i top next : ℕ) → ((j : ℕ) → j < i → get_or s (p + j) 0 ≤ top) → top ≤ next → get_or s (p + i) 0 ≤ next
-    → (j : ℕ) → j < i + 1 → get_or s (p + j) 0 ≤ next
-all_so_far_lem s p i top next h l here j b = go (dec_lt j i)
-  where
-    go : Dec (j < i) → get_or s (p + j) 0 ≤ next
-    go (yes k) = let t = h j k in omega arith
-    go (no k) = let e : j ≡ i = omega arith in rw e here
-
 -- ---- the slot
 module _ (n m : ℕ) (s : List ℕ) (a : ℕ) (room : 34 * a + 34 ≤ length s) where
   rest-zero : (k p w : ℕ) → k ≤ 8 → p + 8 ≤ length s → w ≡ le_at 8 s p → clear_from (8 * k) w ≡ true → all_below 1 (unused k s p) ≡ true
@@ -69,14 +61,22 @@ module _ (n m : ℕ) (s : List ℕ) (a : ℕ) (room : 34 * a + 34 ≤ length s) 
       let t = h i j in
       omega (arith, piece-get k s p i j)))
 
+  -- a part of 16 bytes
+  part_most : (p k top : ℕ) → k ≡ 16 → p + 16 ≤ length s → ((i : ℕ) → i < length (take k (drop p s)) → get_or (take k (drop p s)) i 0 ≤ top)
+      → (i : ℕ) → i < 16 → get_or s (p + i) 0 ≤ top
+  part_most p k top e h f i l =
+      let size : length (take k (drop p s)) ≡ k = length-take-le k (drop p s) (omega (arith, length-drop p s)) in
+      rw (← get_or-drop p s i 0, ← get_or-take k (drop p s) i 0 (omega arith)) (f i (omega arith))
+
   -- k, r and the command bytes are read, and judged
   pub words_fine : (k r top v w phi psi : ℕ) → k ≡ get_or s (34 * a) 0 → r ≡ get_or s (34 * a + 1) 0 → counts_fine k r ≡ true
-      → ((i : ℕ) → i < 16 → get_or s (34 * a + 2 + i) 0 ≤ top) → top < m → v ≡ le_at 8 s (34 * a + 2) → clear_from (8 * k) v ≡ true
+      → (let l = take (34 * a + 18 - (34 * a + 2)) (drop (34 * a + 2) s) in (i : ℕ) → i < length l → get_or l i 0 ≤ top) → top < m → v ≡ le_at 8 s (34 * a + 2) → clear_from (8 * k) v ≡ true
       → w ≡ le_at 8 s (34 * a + 10) → clear_from (8 * r) w ≡ true → phi ≡ le_at 8 s (34 * a + 18) → clear_from n phi ≡ true
       → psi ≡ le_at 8 s (34 * a + 26) → clear_from n psi ≡ true → slot_fine n m s a ≡ true
   unfolding slot_fine fields_fine item_at
-  words_fine k r top v w phi psi ek er counts most below ev fv ew fw ep fp eq fq =
+  words_fine k r top v w phi psi ek er counts largest below ev fv ew fw ep fp eq fq =
       let q = 34 * a in
+      let most = part_most (34 * a + 2) (34 * a + 18 - (34 * a + 2)) top (omega arith) (omega arith) largest in
       let x = item_at s a in
       let (some, few, few_reverse) = counts_on k r counts in
       let lk = k_is s a k ek in

@@ -1,8 +1,12 @@
 // The portable relay's rule (02, CR 1).
 #![tactic(auto)]
 
-ghost use Rattle.std.specs.Prelude.{◌≡◌, ◌<◌};
+ghost use Rattle.std.specs.Prelude.{◌≡◌, ◌<◌, refl};
+ghost use Rattle.std.proofs.Common.{arith};
+ghost use Rattle.portable_rule.specs.Portable.{portable};
 ghost use Rattle.portable_rule.specs.Computed.{single, rule_mask};
+
+use lookups::GivenByRule;
 
 // The set of one state, by channel, power and mode.
 fn one_state(c: u64, p: u64, q: u64) -> u64
@@ -38,4 +42,27 @@ pub fn outcomes(state: u64, command: u64) -> u64
         11 => one_state(c, p, 0),
         _ => 0,
     }
+}
+
+// The portable relay as a device given by its rule.
+pub struct PortableRelay;
+
+impl GivenByRule for PortableRelay {
+    const STATES: u64 = 32;
+
+    const COMMANDS: u64 = 12;
+
+    ghost STATES = { 32 };
+
+    ghost COMMANDS = { 12 };
+
+    ghost rule = { portable };
+
+    fn outcomes(state: u64, command: u64) -> u64 {
+        outcomes(state, command)
+    }
+
+    ghost all_numbers = { (refl, refl) };
+
+    ghost within_limits = { (Prim.omega arith, Prim.omega arith) };
 }

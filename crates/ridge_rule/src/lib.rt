@@ -1,8 +1,12 @@
 // The ridge repeater's rule (01, "The ridge repeater").
 #![tactic(auto)]
 
-ghost use Rattle.std.specs.Prelude.{◌≡◌, ◌<◌};
+ghost use Rattle.std.specs.Prelude.{◌≡◌, ◌<◌, refl};
+ghost use Rattle.std.proofs.Common.{arith};
+ghost use Rattle.ridge_rule.specs.Ridge.{ridge};
 ghost use Rattle.ridge_rule.specs.Computed.{single, rule_mask};
+
+use lookups::GivenByRule;
 
 // The set of one state, by channel, power and mode.
 fn one_state(c: u64, p: u64, q: u64) -> u64
@@ -64,4 +68,27 @@ pub fn outcomes(state: u64, command: u64) -> u64
         },
         _ => 0,
     }
+}
+
+// The ridge repeater as a device given by its rule.
+pub struct RidgeRepeater;
+
+impl GivenByRule for RidgeRepeater {
+    const STATES: u64 = 64;
+
+    const COMMANDS: u64 = 16;
+
+    ghost STATES = { 64 };
+
+    ghost COMMANDS = { 16 };
+
+    ghost rule = { ridge };
+
+    fn outcomes(state: u64, command: u64) -> u64 {
+        outcomes(state, command)
+    }
+
+    ghost all_numbers = { (refl, refl) };
+
+    ghost within_limits = { (Prim.omega arith, Prim.omega arith) };
 }

@@ -25,7 +25,7 @@ pub trait GivenByRule {
 
     ghost all_numbers: { (STATES ≡ rule.n) × (COMMANDS ≡ rule.m) };
 
-    ghost within_limits: { (STATES ≤ 64) × (COMMANDS ≤ 32) };
+    ghost within_limits: { (1 ≤ STATES) × (STATES ≤ 64) × (1 ≤ COMMANDS) × (COMMANDS ≤ 32) };
 }
 
 // What a lookup answers: the code, its place, and the mask of the outcomes.

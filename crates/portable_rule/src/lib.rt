@@ -1,7 +1,7 @@
 // The portable relay's rule (02, CR 1).
 #![tactic(auto)]
 
-ghost use Rattle.std.specs.Prelude.{◌≡◌, ◌<◌, refl};
+ghost use Rattle.std.specs.Prelude.{◌≡◌, ◌<◌};
 ghost use Rattle.std.proofs.Common.{arith};
 ghost use Rattle.portable_rule.specs.Portable.{portable};
 ghost use Rattle.portable_rule.specs.Computed.{single, rule_mask};
@@ -62,7 +62,7 @@ impl GivenByRule for PortableRelay {
         outcomes(state, command)
     }
 
-    ghost all_numbers = { (refl, refl) };
+    ghost all_numbers = { Prim.omega arith };
 
-    ghost within_limits = { (Prim.omega arith, Prim.omega arith) };
+    ghost within_limits = { Prim.omega arith };
 }

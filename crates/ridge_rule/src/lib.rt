@@ -1,7 +1,7 @@
 // The ridge repeater's rule (01, "The ridge repeater").
 #![tactic(auto)]
 
-ghost use Rattle.std.specs.Prelude.{◌≡◌, ◌<◌, refl};
+ghost use Rattle.std.specs.Prelude.{◌≡◌, ◌<◌};
 ghost use Rattle.std.proofs.Common.{arith};
 ghost use Rattle.ridge_rule.specs.Ridge.{ridge};
 ghost use Rattle.ridge_rule.specs.Computed.{single, rule_mask};
@@ -88,7 +88,7 @@ impl GivenByRule for RidgeRepeater {
         outcomes(state, command)
     }
 
-    ghost all_numbers = { (refl, refl) };
+    ghost all_numbers = { Prim.omega arith };
 
-    ghost within_limits = { (Prim.omega arith, Prim.omega arith) };
+    ghost within_limits = { Prim.omega arith };
 }

@@ -12,15 +12,11 @@ use lib.ListN.{get_or}
 use Rattle.base.specs.Tests.{pick}
 use Rattle.base.specs.Tables.{cell, RowBy}
 use Rattle.lookups.specs.declared.LookupResult.{LookupResult}
-use Rattle.lookups.specs.Rules.{DeviceRule, OutcomesOf, WorksOut}
+use Rattle.lookups.specs.Rules.{DeviceRule, WorksOut}
 use Rattle.lookups.specs.Lookup.{refusal, found, EqualsRule, Looked}
-use Rattle.lookups.specs.Computed.{answer_of, lookup_of, WorksOutAll}
+use Rattle.lookups.specs.Computed.{answer_of, lookup_of}
 use Rattle.lookups.proofs.Rules.{one-mask}
 use Rattle.lookups.proofs.Tables.{table_function}
-
--- a mask of the rule's outcomes is the one that its function gives
-pub is-mask : {d : DeviceRule} {f : ℕ → ℕ → ℕ} → WorksOutAll d f → {s k w : ℕ} → OutcomesOf d s k w → w ≡ f s k
-is-mask all {s} {k} h = one-mask h (all s k)
 
 module _ (n m s k w : ℕ) where
   pub no_state : n ≤ s → refusal ≡ answer_of n m s k w

@@ -60,6 +60,7 @@ impl From<Option<u64>> for LookupResult {
 }
 
 // The mask of a command in a state, by a table with an entry for each; None for what is no state or no command.
+#[tactic(auto, using(std::proofs::lemmas::Bool::Decides::nat_tests), unfolding(crate::specs::Computed::answer_of, base::specs::Tests::pick, base::specs::Tables::cell))]
 fn mask_in<D: GivenByRule>(table: &[u64], state: u64, command: u64) -> Option<u64>
     ensures { answered result ≡ answer_of D.rule.n D.rule.m state command (cell D.rule.m table.now state command) }
 {

@@ -1,4 +1,4 @@
--- A lookup's answer: refused outside, else the mask; by a row of the rule's table, by the rule worked out, and as 01 words it, which leaves no other
+-- A lookup's answer: refused outside, else the mask; by a row of the rule's table or the table, by the rule worked out, and as 01 words it, which leaves no other
 -- answer. Assumes nothing.
 use mathlib.Core.Path.{◌≡◌, sym, ap, ◌∙◌}
 use mathlib.Core.Bool.{or-true}
@@ -10,16 +10,13 @@ use native.Mathlib.Omega.{arith}
 use borrow.Author.Tests.{le-leb, lt-leb}
 use lib.ListN.{get_or}
 use Rattle.base.specs.Tests.{pick}
-use Rattle.base.specs.Tables.{RowBy}
+use Rattle.base.specs.Tables.{cell, RowBy}
 use Rattle.lookups.specs.declared.LookupResult.{LookupResult}
-use Rattle.lookups.specs.Rules.{DeviceRule, OutcomesOf, WorksOut}
-use Rattle.lookups.specs.Lookup.{refusal, found, Looked}
-use Rattle.lookups.specs.Computed.{answer_of, lookup_of, WorksOutAll}
+use Rattle.lookups.specs.Rules.{DeviceRule, WorksOut}
+use Rattle.lookups.specs.Lookup.{refusal, found, EqualsRule, Looked}
+use Rattle.lookups.specs.Computed.{answer_of, lookup_of}
 use Rattle.lookups.proofs.Rules.{one-mask}
-
--- a mask of the rule's outcomes is the one that its function gives
-pub is-mask : {d : DeviceRule} {f : ℕ → ℕ → ℕ} → WorksOutAll d f → {s k w : ℕ} → OutcomesOf d s k w → w ≡ f s k
-is-mask all {s} {k} h = one-mask h (all s k)
+use Rattle.lookups.proofs.Tables.{table_function}
 
 module _ (n m s k w : ℕ) where
   pub no_state : n ≤ s → refusal ≡ answer_of n m s k w
@@ -48,6 +45,11 @@ pub row_lookup : (d : DeviceRule) (f : ℕ → ℕ → ℕ) (s k : ℕ) {row : L
     → answer_of d.n d.m s k (get_or row k 0) ≡ lookup_of d f s k
 row_lookup d f s k r = answer-same d.n d.m s k (λ a b. (r a).entries k b)
 
+-- from the rule's table itself
+pub table_lookup : {d : DeviceRule} {f : ℕ → ℕ → ℕ} → WorksOut d f → {not-empty : ℕ} {table : List ℕ} → EqualsRule d not-empty table → (s k : ℕ)
+    → answer_of d.n d.m s k (cell d.m table s k) ≡ lookup_of d f s k
+table_lookup {d} works e s k = answer-same d.n d.m s k (λ a b. (table_function works e).entries s k a b)
+
 -- the computed answer is the one that 01 words
 pub looked : {d : DeviceRule} {f : ℕ → ℕ → ℕ} → WorksOut d f → (s k : ℕ) (r : LookupResult) → r ≡ lookup_of d f s k → Looked d s k r
 looked {d} {f} works s k r e =
@@ -55,6 +57,12 @@ looked {d} {f} works s k r e =
       outside = λ o. e ∙ sym (⊎_elim (no_state d.n d.m s k (f s k)) (no_command d.n d.m s k (f s k)) o);
       inside = λ a b. (f s k, works s k a b, e ∙ sym (mask-found d.n d.m s k (f s k) a b));
     }
+
+-- and so is the answer that reads the rule's table
+pub table_looked : {d : DeviceRule} {not-empty : ℕ} {table : List ℕ} → EqualsRule d not-empty table → (s k : ℕ) (r : LookupResult)
+    → r ≡ answer_of d.n d.m s k (cell d.m table s k) → Looked d s k r
+unfolding cell
+table_looked e s k r q = looked e.masks s k r q
 
 -- no other result is the one that 01 words
 pub looked_unique : (d : DeviceRule) (s k : ℕ) (r q : LookupResult) → Looked d s k r → Looked d s k q → r ≡ q

@@ -1,86 +1,80 @@
-// What the lookups of all devices share: the answer, and a state's row of a constant table.
+// Devices given by a rule: what such a device is, and a lookup in its constant table, for any of them.
 #![tactic(auto)]
 
-ghost use Rattle.std.specs.Prelude.{◌≡◌, ◌≤◌, ◌<◌, get_or};
-ghost use Rattle.base.specs.Tables.{cell, RowBy};
-ghost use Rattle.lookups.specs.Computed.{answer_of};
+ghost use Rattle.std.specs.Prelude.{◌≡◌, ℕ, ◌≤◌};
+ghost use Rattle.base.specs.Tables.{cell};
+ghost use Rattle.lookups.specs.Rules.{DeviceRule, OutcomesOf};
+ghost use Rattle.lookups.specs.Lookup.{EqualsRule, Looked};
+ghost use Rattle.lookups.specs.Computed.{answered, answer_of};
+
+// A device given by a rule: its states and its commands, and the rule worked out.
+pub trait GivenByRule {
+    const STATES: u64;
+
+    const COMMANDS: u64;
+
+    ghost STATES: { ℕ };
+
+    ghost COMMANDS: { ℕ };
+
+    ghost rule: { DeviceRule };
+
+    // The outcomes of a command in a state, by the rule: none for what is no state or no command.
+    fn outcomes(state: u64, command: u64) -> u64
+        ensures { OutcomesOf rule state command result };
+
+    ghost all_numbers: { (STATES ≡ rule.n) × (COMMANDS ≡ rule.m) };
+
+    ghost within_limits: { (1 ≤ STATES) × (STATES ≤ 64) × (1 ≤ COMMANDS) × (COMMANDS ≤ 32) };
+}
 
 // What a lookup answers: the code, its place, and the mask of the outcomes.
 #[repr(C)]
-#[derive(Drop)]
+#[derive(Drop, PartialEq, Eq)]
 pub struct LookupResult {
     pub code: u64,
     pub place: u64,
     pub mask: u64,
 }
 
-// The most commands of a device that has a constant table.
-pub const ROW_LEN: usize = 16;
+// The code where there is no such state or command.
+const NO_ENTRY: u64 = 5;
 
-// An entry of a table or a row, 0 past its end.
-fn entry_at(table: &[u64], at: usize) -> u64
-    ensures { result ≡ get_or table.now at 0 }
-{
-    if at < table.len() { table[at] } else { 0 }
-}
+impl From<Option<u64>> for LookupResult {
+    ghost from_gives = { λ mask r. r ≡ answered mask };
 
-// A state's row of a table with m entries for each state; zeros where m is over 16 or the state over 63, more than any device here has.
-pub fn row_at(table: &[u64], m: usize, state: usize) -> [u64; ROW_LEN]
-    ensures { m ≤ 16 → state < 64 → RowBy m (cell m table.now state) result }
-{
-    let mut row = [0u64; ROW_LEN];
-    if m > ROW_LEN || state > 63 {
-        return row;
-    }
-    for k in 0..m {
-        row[k] = entry_at(table, state * m + k);
-    }
-    row
-}
-
-// The mask of a command in a state's row, 0 past its end. With an arm for each command the compiler reads that mask alone, and builds no row.
-fn mask_at(row: &[u64], command: u64) -> u64
-    ensures { result ≡ get_or row.now command 0 }
-{
-    if row.len() != ROW_LEN {
-        return entry_at(row, command as usize);
-    }
-    match command {
-        0 => row[0],
-        1 => row[1],
-        2 => row[2],
-        3 => row[3],
-        4 => row[4],
-        5 => row[5],
-        6 => row[6],
-        7 => row[7],
-        8 => row[8],
-        9 => row[9],
-        10 => row[10],
-        11 => row[11],
-        12 => row[12],
-        13 => row[13],
-        14 => row[14],
-        15 => row[15],
-        _ => 0,
+    fn from(mask: Option<u64>) -> LookupResult {
+        match mask {
+            Some(mask) => LookupResult {
+                code: 0,
+                place: 0,
+                mask,
+            },
+            None => LookupResult {
+                code: NO_ENTRY,
+                place: 0,
+                mask: 0,
+            },
+        }
     }
 }
 
-// The answer of a device with n states and m commands, from the state's row. Code 5 for what is no state or no command.
-pub fn answer(n: u64, m: u64, state: u64, command: u64, row: &[u64]) -> LookupResult
-    ensures { result ≡ answer_of n m state command (get_or row.now command 0) }
+// The mask of a command in a state, by a table with an entry for each; None for what is no state or no command.
+#[tactic(auto, using(std::proofs::lemmas::Bool::Decides::nat_tests), unfolding(crate::specs::Computed::answer_of, base::specs::Tests::pick, base::specs::Tables::cell))]
+fn mask_in<D: GivenByRule>(table: &[u64], state: u64, command: u64) -> Option<u64>
+    ensures { answered result ≡ answer_of D.rule.n D.rule.m state command (cell D.rule.m table.now state command) }
 {
-    if state >= n || command >= m {
-        return LookupResult {
-            code: 5,
-            place: 0,
-            mask: 0,
-        };
+    if state >= D::STATES || command >= D::COMMANDS {
+        return None;
     }
-    let mask = mask_at(row, command);
-    LookupResult {
-        code: 0,
-        place: 0,
-        mask,
-    }
+    let entry = state * D::COMMANDS + command;
+    Some(table.get(entry as usize).copied().unwrap_or(0))
+}
+
+// The outcomes of a command in a state, by a constant table of the device. Code 5 for what is no state or no command.
+pub fn lookup<D: GivenByRule>(table: &[u64], state: u64, command: u64) -> LookupResult
+    ensures entry { result ≡ answer_of D.rule.n D.rule.m state command (cell D.rule.m table.now state command) }
+    ensures by_rule { (not_empty : ℕ) → EqualsRule D.rule not_empty table.now → Looked D.rule state command result }
+{
+    LookupResult::from(mask_in::<D>(table, state, command))
 }

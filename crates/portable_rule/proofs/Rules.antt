@@ -1,14 +1,11 @@
 -- The computed rule and the relation say the same. Assumes nothing.
-use mathlib.Core.Path.{◌≡◌}
-use mathlib.Core.Logic.{◌⊎◌, inl, inr}
-use Prim.Native.Nat.{ℕ, ◌<◌}
+use mathlib.Core.Logic.{inl, inr}
 use native.Mathlib.Omega.{arith}
 use borrow.Author.Tests.{leb-true, leb-false, eqb-true, eqb-false}
 use Rattle.lookups.specs.Rules.{WorksOut, LeadsInside}
 use Rattle.lookups.specs.Computed.{WorksOutAll}
 use Rattle.lookups.proofs.Rules.{of_pick, works}
-use Rattle.lookups.proofs.Exactly.{is-mask}
-use Rattle.portable_rule.specs.Portable.{portable, mode}
+use Rattle.portable_rule.specs.Portable.{portable}
 use Rattle.portable_rule.specs.Computed.{rule_mask}
 use Rattle.portable_rule.proofs.Cases.{inverse, by_standby, by_relay, by_power, by_set_relay, by_set_standby, by_none}
 
@@ -37,6 +34,3 @@ works_out = works rule_mask_lem
 -- every outcome is a state
 pub leads_inside : LeadsInside portable
 leads_inside s k t r = omega (arith, (inverse r).inside)
-
-pub no_mask : (s k : ℕ) → (1 < mode s) ⊎ (11 < k) → 0 ≡ rule_mask s k
-no_mask s k n = is-mask rule_mask_lem (by_none s k n)

@@ -8,7 +8,6 @@ use Rattle.base.specs.Tests.{pick}
 use Rattle.lookups.specs.Rules.{OutcomesOf, WorksOut, LeadsInside}
 use Rattle.lookups.specs.Computed.{WorksOutAll}
 use Rattle.lookups.proofs.Rules.{of_pick, works}
-use Rattle.lookups.proofs.Exactly.{is-mask}
 use Rattle.ridge_rule.specs.Ridge.{ridge}
 use Rattle.ridge_rule.specs.Computed.{rule_mask}
 use Rattle.ridge_rule.proofs.Cases.{inverse, by_standby, by_relay, by_power, by_mode, by_lock, by_unlock, by_any, by_up, by_down, Else, all_else}
@@ -47,6 +46,3 @@ works_out = works rule_mask_lem
 -- every outcome is a state
 pub leads_inside : LeadsInside ridge
 leads_inside s k t r = omega (arith, (inverse r).inside)
-
-pub no_mask : (s k : ℕ) → Else s k → 0 ≡ rule_mask s k
-no_mask s k n = is-mask rule_mask_lem (all_else s k n)

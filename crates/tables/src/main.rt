@@ -2,21 +2,21 @@
 // relay's 384 (02, CR 1). make.sh makes the source files of the constant tables of this.
 #![tactic(auto)]
 
+use lookups::GivenByRule;
+use portable_rule::PortableRelay;
+use ridge_rule::RidgeRepeater;
 use std::io::Print;
 
 // What standard output does not take is let go.
-fn print_line(rt: &impl Print, mask: u64) {
-    let mut text = [0u8; 20];
-    let k = io::decimal(mask, &mut text);
-    let _ = rt.write_all(&text[..k]);
-    let _ = rt.write_all(b"\n");
+fn print_masks<D: GivenByRule>(rt: &impl Print) {
+    for state in 0..D::STATES {
+        for command in 0..D::COMMANDS {
+            let _ = println!(rt; "{}", D::outcomes(state, command));
+        }
+    }
 }
 
 fn main(rt: HostRuntime) {
-    for entry in 0..1024 {
-        print_line(&rt, ridge_rule::outcomes(entry / 16, entry % 16));
-    }
-    for entry in 0..384 {
-        print_line(&rt, portable_rule::outcomes(entry / 12, entry % 12));
-    }
+    print_masks::<RidgeRepeater>(&rt);
+    print_masks::<PortableRelay>(&rt);
 }

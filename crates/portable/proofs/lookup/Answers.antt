@@ -1,9 +1,8 @@
--- `portable::lookup` meets its contract: the row is that of the rule's table. Assumes nothing.
+-- `portable::lookup` meets its contract: the table that it reads is the rule's. Assumes nothing.
 use Rattle.std.proofs.Common.{◌∙◌}
-use Rattle.lookups.proofs.Exactly.{row_lookup}
-use Rattle.portable_rule.specs.Portable.{portable}
-use Rattle.portable_rule.specs.Computed.{rule_mask}
+use Rattle.lookups.proofs.Exactly.{table_lookup}
+use Rattle.portable_rule.proofs.Rules.{works_out}
 use Rattle.portable.proofs.lookup.Goals as goal
 
 pub returns : goal.returns
-returns c = c.answer.ensures ∙ row_lookup portable rule_mask _ _ c.row_of-row.ensures
+returns c = c.lookup.ensures.entry ∙ table_lookup works_out c.entries.ensures _ _

@@ -1,4 +1,4 @@
--- `ridge::table` meets its contract: one test over all 1,024 entries of the constant, its length, and how many are not empty, computed. Assumes nothing.
+-- `ridge::entries` meets its contract: one test over all 1,024 entries of the constant, its length, and how many are not empty, computed. Assumes nothing.
 use Rattle.std.proofs.Common.{refl}
 use Rattle.base.specs.Tests.{pick, both}
 use Rattle.base.specs.Bounded.{union}
@@ -7,7 +7,7 @@ use Rattle.lookups.specs.Lookup.{filled}
 use Rattle.lookups.proofs.Tables.{rule_to_table}
 use Rattle.ridge_rule.specs.Computed.{single, rule_mask}
 use Rattle.ridge_rule.proofs.Rules.{works_out}
-use Rattle.ridge.proofs.table.Goals as goal
+use Rattle.ridge.proofs.entries.Goals as goal
 
 pub returns : goal.returns
 unfolding pick both union filled every by_rule single rule_mask

@@ -152,8 +152,11 @@ at_start_lem w = (w.row, w.end ∙ zero-add _)
 
 -- a whole text: what the row holds at the end, and the length
 module _ {out text : List ℕ} {s t : Text} (a : Adds s text t) (row : s.out.now ≡ out) (empty : s.end ≡ 0) where
+  pub whole : {final : List ℕ} → final ≡ t.out.now → Written out 0 text final t.end
+  whole f = rw f (rw (row, empty) at a.written)
+
   pub whole_row : {final : List ℕ} → final ≡ t.out.now → final ≡ sets out 0 text
-  whole_row f = f ∙ (at_start_lem (rw (row, empty) at a.written)).0
+  whole_row f = (at_start_lem (whole f)).0
 
   pub whole_length : t.end ≡ length text
-  whole_length = (at_start_lem (rw (row, empty) at a.written)).1
+  whole_length = (at_start_lem (whole refl)).1

@@ -1,11 +1,10 @@
 -- One text after another, and what is left of a line. Assumes nothing.
-use mathlib.Core.Path.{◌≡◌, refl, sym, ap, ◌∙◌}
-use mathlib.Core.List.{List, [], ◌∷◌, ◌++◌, append-nil}
+use mathlib.Core.Path.{◌≡◌, refl, sym, ap, ap₂, ◌∙◌, subst}
+use mathlib.Core.List.{List, [], ◌∷◌, ◌++◌, append-nil, append_assoc}
 use Prim.Native.Nat.{ℕ, zero, suc, ◌+◌, ◌-◌, ◌%◌, ◌^◌, ◌≤◌, ◌<◌, min}
-use native.Mathlib.Nat.{zero-add, sub-zero, suc-min-suc}
-use native.Mathlib.Numerals.{add-one}
+use native.Mathlib.Nat.{zero-add, suc-min-suc}
 use native.Mathlib.Omega.{arith}
-use lib.ListN.{length, get_or, take, replicate, length-append, length-take, length-replicate}
+use lib.ListN.{length, take, replicate, length-append, length-take, length-replicate}
 use lib.Seq.{sets, take_all, take-nil, take-take}
 use Rattle.base.proofs.Picks.{same_yes, same_no}
 use Rattle.octets.specs.Le.{bytes_le}
@@ -13,8 +12,10 @@ use Rattle.octets.specs.Parts.{piece}
 use Rattle.octets.proofs.Put.{sets_past, sets_append, piece-take}
 use Rattle.io.specs.Counts.{IsPrefixLen}
 use Rattle.io.specs.Digits.{last_digits, IsDigitCount}
+use Rattle.show.specs.declared.Text.{Text}
 use Rattle.show.specs.Show.{newline, space, decimal, right_aligned, field, line, lines_of, planned}
 use Rattle.show.specs.Written.{Written}
+use Rattle.show.specs.Adds.{Adds, Numbers, none, one_more}
 use Rattle.show.proofs.Decimal.{decimal-is}
 
 -- a text, and another at its end
@@ -27,9 +28,19 @@ then {old} {at} {xs} {mid} {a} {ys} u v =
     }
 
 -- one byte
-one_put : (old : List ℕ) (at b : ℕ) (new : List ℕ) → b < 256 → new ≡ sets old at (bytes_le 1 b) → Written old at (b ∷ []) new (at + 1)
+pub one_put : (old : List ℕ) (at b : ℕ) (new : List ℕ) → b < 256 → new ≡ sets old at (bytes_le 1 b) → Written old at (b ∷ []) new (at + 1)
 unfolding bytes_le
 one_put old at b new h e = let m : b % 256 ≡ b = omega arith in record { row = rw m at e; end = refl }
+
+pub added : {s : Text} {xs : List ℕ} {t : Text} {ys : List ℕ} {u : Text} → Adds s xs t → Adds t ys u → Adds s (xs ++ ys) u
+added a b = record { same_row = b.same_row ∙ a.same_row; written = then a.written b.written }
+
+pub same_part : {s : Text} {xs ys : List ℕ} {t : Text} → xs ≡ ys → Adds s xs t → Adds s ys t
+same_part {s} {t = t} e a = subst (λ (zs : List ℕ). Adds s zs t) e a
+
+-- nothing
+pub unchanged : (s : Text) → Adds s [] s
+unchanged s = record { same_row = refl; written = record { row = refl; end = omega arith } }
 
 -- ---- a number: spaces, and the digits that `io::decimal` made, copied behind them
 module _ (text : List ℕ) (k n : ℕ) (c : IsPrefixLen k text) (f : IsDigitCount 10 1 n k) (d : take k text ≡ last_digits 10 k n) (h : n < 2 ^ 64) where
@@ -71,43 +82,43 @@ module _ (text : List ℕ) (k n : ℕ) (c : IsPrefixLen k text) (f : IsDigitCoun
       pub right-past : length mid ≤ at + pad → mid ≡ sets old at (replicate (w - length (decimal n)) space ++ decimal n)
       right-past l = behind mid (sym (sets_past mid (at + pad) (decimal n) l))
 
--- a number, and one byte
-pub field_put : (old mid new : List ℕ) (at k n b : ℕ) → b < 256 → mid ≡ sets old at (decimal n) → k ≡ length (decimal n)
-    → new ≡ sets mid (at + k) (bytes_le 1 b) → Written old at (field n b) new (at + k + 1)
-field_put old mid new at k n b l e c g =
-    let w : Written old at (decimal n) mid (at + k) = record { row = e; end = ap (λ (x : ℕ). at + x) c } in
-    then w (one_put mid (at + k) b new l g)
+-- a number alone
+pub unpadded_is : (n : ℕ) → right_aligned 0 n ≡ decimal n
+unfolding right_aligned
+unpadded_is n = let e : 0 - length (decimal n) ≡ 0 = omega arith in rw e
 
--- ---- the commands of a plan
+-- ---- the numbers of a line
 
--- what puts the rest at `next` puts the whole text at `at`
-abbrev pub Completes : List ℕ → ℕ → List ℕ → List ℕ → ℕ → List ℕ → Type 0
-Completes old at text out next rest = (new : List ℕ) (end : ℕ) → Written out next rest new end → Written old at text new end
+-- numbers, a space after each
+abbrev pub spaced : List ℕ → List ℕ
+spaced [] = []
+spaced (n ∷ ns) = field n space ++ spaced ns
 
-module _ (n : ℕ) (plan : List ℕ) where
-  pub plan-none : (old : List ℕ) (at : ℕ) (new : List ℕ) → n ≡ 0 → new ≡ sets old at (bytes_le 1 newline) → Written old at (line (piece n plan 0)) new (at + 1)
-  unfolding line piece
-  plan-none old at new h e = rw h (one_put old at newline new (omega arith) e)
+pub spaced_more : (ns : List ℕ) (n : ℕ) → spaced ns ++ field n space ≡ spaced (ns ++ (n ∷ []))
+spaced_more [] n = sym (append-nil (field n space))
+spaced_more (m ∷ ns) n = append_assoc (field m space) (spaced ns) (field n space) ∙ ap (λ (t : List ℕ). field m space ++ t) (spaced_more ns n)
 
-  pub plan-start : (old : List ℕ) (at : ℕ) → Completes old at (line (piece n plan 0)) old at (line (piece (n - 0) plan 0))
-  plan-start old at new end w = rw sub-zero at w
+-- a line is its numbers but the last, and the last
+pub line_is : (ns : List ℕ) (n : ℕ) → spaced ns ++ field n newline ≡ line (ns ++ (n ∷ []))
+unfolding line
+line_is [] n = refl
+line_is (m ∷ []) n = rw append-nil
+line_is (m ∷ k ∷ ns) n = append_assoc (field m space) (spaced (k ∷ ns)) (field n newline) ∙ ap (λ (t : List ℕ). field m space ++ t) (line_is (k ∷ ns) n)
 
-  turn : (i : ℕ) → i + 1 < n → line (piece (n - i) plan i) ≡ field (get_or plan i 0) space ++ line (piece (n - (i + 1)) plan (i + 1))
-  unfolding line piece
-  turn i h =
-      let p : n - i ≡ suc (suc (n - (i + 2))) = omega arith in
-      let q : n - (i + 1) ≡ suc (n - (i + 2)) = omega arith in
-      rw (p, q, add-one i)
+module _ {X : Type 0} (converts : X → ℕ → Type 0) where
+  pub none_of : (xs : List X) → length xs ≡ 0 → Numbers converts xs []
+  none_of [] h = none
+  none_of (x ∷ xs) h = absurd (omega arith)
 
-  module _ (old : List ℕ) (at : ℕ) (text out : List ℕ) (next i b : ℕ) (w : Completes old at text out next (line (piece (n - i) plan i)))
-      (e : b ≡ get_or plan i 0) where
-    pub plan-again : i + 1 < n → (out' : List ℕ) (next' : ℕ) → Written out next (field b space) out' next'
-        → Completes old at text out' next' (line (piece (n - (i + 1)) plan (i + 1)))
-    plan-again h out' next' u new end v = w new end (rw (turn i h, ← e) (then u v))
+  pub numbers_more : {xs : List X} {ns : List ℕ} {x : X} {n : ℕ} → Numbers converts xs ns → converts x n
+      → Numbers converts (xs ++ (x ∷ [])) (ns ++ (n ∷ []))
+  numbers_more none h = one_more h none
+  numbers_more (one_more g ns) h = one_more g (numbers_more ns h)
 
-    pub plan-last : i < n → n ≤ i + 1 → (new : List ℕ) (end : ℕ) → Written out next (field b newline) new end → Written old at text new end
-    unfolding line piece
-    plan-last h l new end u = let p : n - i ≡ 1 = omega arith in w new end (rw (p, ← e) u)
+-- where the conversion gives the number itself
+pub numbers_are : {xs ns : List ℕ} → Numbers (λ x n. n ≡ x) xs ns → ns ≡ xs
+numbers_are none = refl
+numbers_are (one_more e ns) = ap₂ (λ (x : ℕ) (xs : List ℕ). x ∷ xs) e (numbers_are ns)
 
 -- the first of a list are as many as there are
 pub take_min : (k : ℕ) (l : List ℕ) → take (min k (length l)) l ≡ take k l
@@ -115,25 +126,37 @@ take_min zero l = let e : min 0 (length l) ≡ 0 = omega arith in rw e
 take_min (suc k) [] = take-nil (min (suc k) 0)
 take_min (suc k) (x ∷ l) = rw suc-min-suc (ap (λ (t : List ℕ). x ∷ t) (take_min k l))
 
-planned-is : (commands : ℕ) (plan : List ℕ) → planned commands plan ≡ piece (min commands (min 256 (length plan))) plan 0
+planned-is : (commands : ℕ) (plan : List ℕ) → planned commands plan ≡ take (min commands (min 256 (length plan))) plan
 planned-is commands plan =
     let n = min commands (min 256 (length plan)) in
     let e : min commands (length (take 256 plan)) ≡ n = rw length-take in
-    sym (take_min commands (take 256 plan)) ∙ rw e (take-take n 256 plan (omega arith)) ∙ sym (piece-take n plan 0 (omega arith))
+    sym (take_min commands (take 256 plan)) ∙ rw e (take-take n 256 plan (omega arith))
 
 -- ---- both lines
-module _ (old : List ℕ) (code place commands legs : ℕ) (plan mid : List ℕ) (a : ℕ) (w : Written old 0 (line (code ∷ place ∷ commands ∷ legs ∷ [])) mid a) where
-  pub lines-refused : (code ≡ 0 → ⊥) → Written old 0 (lines_of code place commands legs (planned commands plan)) mid a
+module _ (plan : List ℕ) {s : Text} {code place commands legs : ℕ} {ns : List ℕ} {t : Text} (a : Adds s (line ns) t) (e : ns ≡ code ∷ place ∷ commands ∷ legs ∷ []) where
+  pub lines-refused : (code ≡ 0 → ⊥) → Adds s (lines_of code place commands legs (planned commands plan)) t
   unfolding lines_of
-  lines-refused h = rw (← same_no _ (line (planned commands plan)) [] code 0 h refl, append-nil) w
+  lines-refused h = rw (← same_no _ (line (planned commands plan)) [] code 0 h refl, append-nil, ← e) a
 
-  pub lines-done : (n k : ℕ) (new : List ℕ) (next : ℕ) → code ≡ 0 → k ≡ min 256 (length plan) → n ≡ min commands k
-      → Written mid a (line (piece n plan 0)) new next → Written old 0 (lines_of code place commands legs (planned commands plan)) new next
+  pub lines-done : (n k : ℕ) {ms : List ℕ} {u : Text} → code ≡ 0 → k ≡ min (length plan) 256 → n ≡ min commands k → Adds t (line ms) u → ms ≡ take n plan
+      → Adds s (lines_of code place commands legs (planned commands plan)) u
   unfolding lines_of
-  lines-done n k new next h e f u =
-      let p : planned commands plan ≡ piece n plan 0 = planned-is commands plan ∙ rw (f, e) in
-      rw (← same_yes _ (line (planned commands plan)) [] code 0 h refl, p) (then w u)
+  lines-done n k {ms} h f g b q =
+      let m : n ≡ min commands (min 256 (length plan)) = omega arith in
+      let p : planned commands plan ≡ ms = planned-is commands plan ∙ sym (q ∙ ap (λ (x : ℕ). take x plan) m) in
+      rw (← same_yes _ (line (planned commands plan)) [] code 0 h refl, p, ← e) (added a b)
 
 -- a text at the start of a row
 pub at_start_lem : {old text new : List ℕ} {next : ℕ} → Written old 0 text new next → (new ≡ sets old 0 text) × (next ≡ length text)
 at_start_lem w = (w.row, w.end ∙ zero-add _)
+
+-- a whole text: what the row holds at the end, and the length
+module _ {out text : List ℕ} {s t : Text} (a : Adds s text t) (row : s.out.now ≡ out) (empty : s.end ≡ 0) where
+  pub whole : {final : List ℕ} → final ≡ t.out.now → Written out 0 text final t.end
+  whole f = rw f (rw (row, empty) at a.written)
+
+  pub whole_row : {final : List ℕ} → final ≡ t.out.now → final ≡ sets out 0 text
+  whole_row f = (at_start_lem (whole f)).0
+
+  pub whole_length : t.end ≡ length text
+  whole_length = (at_start_lem (whole refl)).1

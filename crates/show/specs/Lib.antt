@@ -1,3 +1,4 @@
 pub mod Show
 pub mod Written
+pub mod Adds
 pub mod Example

@@ -1,18 +1,10 @@
 // Numbers as text, and the text that the program prints, written into a lent row. What does not fit in the row is not stored, and is counted all the same.
 #![tactic(auto)]
 
-ghost use Rattle.std.specs.Prelude.{◌≡◌, [], ◌∷◌, ◌+◌, ◌-◌, ◌*◌, ◌^◌, ◌<◌, ◌≤◌, min, length};
+ghost use Rattle.std.specs.Prelude.{◌≡◌, List, ℕ, [], ◌∷◌, ◌+◌, ◌*◌, ◌^◌, ◌<◌, ◌≤◌, max, length, replicate};
 ghost use Rattle.std.proofs.lemmas.List.Edits.{sets};
-ghost use Rattle.octets.specs.Parts.{piece};
-ghost use Rattle.show.specs.Show.{right_aligned, field, line, lines_of, planned};
-ghost use Rattle.show.specs.Written.{Written};
-
-// The number of spaces before k digits in `width` characters.
-fn padding(width: usize, k: usize) -> usize
-    ensures { result ≡ width - k }
-{
-    if k < width { width - k } else { 0 }
-}
+ghost use Rattle.show.specs.Show.{space, right_aligned, field, line, lines_of, planned};
+ghost use Rattle.show.specs.Adds.{Adds, Numbers};
 
 // A number in decimal, from `at` on, with spaces before it up to `width` characters. The answer is how many characters these are: `width`, or more
 // where there are more digits.
@@ -23,7 +15,7 @@ pub fn put_right(out: &mut [u8], at: usize, width: usize, n: u64) -> usize
 {
     let mut text = [0u8; 20];
     let k = io::decimal(n, &mut text);
-    let pad = padding(width, k);
+    let pad = width.saturating_sub(k);
     octets::fill(pad, b' ', out, at);
     if !octets::has_room(out.len(), at, pad) {
         return pad + k;
@@ -32,52 +24,66 @@ pub fn put_right(out: &mut [u8], at: usize, width: usize, n: u64) -> usize
     pad + k
 }
 
-// A number in decimal and a byte after it, from `at` on. The answer is the place after them.
-fn put_field(out: &mut [u8], at: usize, n: u64, after: u8) -> usize
-    requires { at < 2 ^ 32 }
-    ensures written { Written out.old at (field n after) out.new result }
-    ensures upper_bound { result ≤ at + 21 }
-{
-    let k = put_right(out, at, 0, n);
-    octets::put_le(1, after as u64, out, at + k);
-    at + k + 1
+// A lent row, and the place after the text that is stored there so far: the next part begins at that place.
+#[derive(Drop)]
+pub struct Text<'a> {
+    pub out: &'a mut [u8],
+    pub end: usize,
 }
 
-// Line 1.
-fn put_head(out: &mut [u8], code: u64, place: u64, commands: u64, legs: u64) -> usize
-    ensures written { Written out.old 0 (line (code ∷ place ∷ commands ∷ legs ∷ [])) out.new result }
-    ensures upper_bound { result ≤ 84 }
-{
-    let a = put_field(out, 0, code, b' ');
-    let b = put_field(out, a, place, b' ');
-    let c = put_field(out, b, commands, b' ');
-    put_field(out, c, legs, b'\n')
-}
-
-// A line with the first n bytes of the plan, from `at` on. The answer is the place after it.
-fn put_plan(out: &mut [u8], at: usize, plan: &[u8], n: usize) -> usize
-    requires { (at < 2 ^ 20) × (n ≤ 256) }
-    ensures written { Written out.old at (line (piece n plan.now 0)) out.new result }
-    ensures upper_bound { result ≤ at + 21 * n + 1 }
-{
-    if n == 0 {
-        octets::put_le(1, 10, out, at);
-        return at + 1;
+impl Text<'_> {
+    // One byte.
+    pub fn put_byte(&mut self, b: u8)
+        requires { self.old.end + 1 < 2 ^ 64 }
+        ensures { Adds self.old (b ∷ []) self.new }
+    {
+        octets::put_le(1, u64::from(b), self.out, self.end);
+        self.end += 1;
     }
-    let mut next = at;
-    let mut i: usize = 0;
-    while i + 1 < n {
-        next = put_field(out, next, octets::byte_at(plan, i), b' ');
-        i = i + 1;
-    }
-    put_field(out, next, octets::byte_at(plan, i), b'\n')
-}
 
-// The lesser of two numbers.
-fn least(a: usize, b: usize) -> usize
-    ensures { result ≡ min a b }
-{
-    if a < b { a } else { b }
+    // Spaces.
+    pub fn put_spaces(&mut self, count: usize)
+        requires { self.old.end + count < 2 ^ 64 }
+        ensures { Adds self.old (replicate count space) self.new }
+    {
+        octets::fill(count, b' ', self.out, self.end);
+        self.end += count;
+    }
+
+    // A number in decimal, with spaces before it up to `width` characters.
+    pub fn put_right(&mut self, width: usize, n: u64)
+        requires { self.old.end + (width + 20) < 2 ^ 64 }
+        ensures adds { Adds self.old (right_aligned width n) self.new }
+        ensures upper_bound { self.new.end ≤ self.old.end + (width + 20) }
+    {
+        self.end += put_right(self.out, self.end, width, n);
+    }
+
+    // A number in decimal and a byte after it.
+    fn put_field(&mut self, n: u64, after: u8)
+        requires { self.old.end < 2 ^ 32 }
+        ensures adds { Adds self.old (field n after) self.new }
+        ensures upper_bound { self.new.end ≤ self.old.end + 21 }
+    {
+        self.put_right(0, n);
+        self.put_byte(after);
+    }
+
+    // Numbers, one space between; an empty line for none.
+    fn put_line<T: Copy + Into<u64>>(&mut self, numbers: &[T])
+        requires { (self.old.end < 2 ^ 20) × (length numbers.now ≤ 256) }
+        ensures adds { (ns : List ℕ) × Numbers T.converts numbers.now ns × Adds self.old (line ns) self.new }
+        ensures upper_bound { self.new.end ≤ self.old.end + max (21 * length numbers.now) 1 }
+    {
+        let Some((last, others)) = numbers.split_last() else {
+            self.put_byte(b'\n');
+            return;
+        };
+        for n in others {
+            self.put_field((*n).into(), b' ');
+        }
+        self.put_field((*last).into(), b'\n');
+    }
 }
 
 // The program's lines at the start of `out`. The answer is their length.
@@ -86,10 +92,12 @@ pub fn lines(out: &mut [u8], code: u64, place: u64, commands: u64, legs: u64, pl
     ensures value { result ≡ length (lines_of code place commands legs (planned commands plan.now)) }
     ensures upper_bound { result ≤ 5461 }
 {
-    let a = put_head(out, code, place, commands, legs);
+    let mut text = Text { out, end: 0 };
+    text.put_line(&[code, place, commands, legs]);
     if code != 0 {
-        return a;
+        return text.end;
     }
-    let n = least(commands as usize, least(256, plan.len()));
-    put_plan(out, a, plan, n)
+    let n = (commands as usize).min(plan.len().min(256));
+    text.put_line(&plan[..n]);
+    text.end
 }

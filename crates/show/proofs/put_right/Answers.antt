@@ -9,21 +9,21 @@ pub returns-then-not-has_room-clause-out_after : goal.returns-then-not-has_room-
 unfolding right_aligned
 returns-then-not-has_room-clause-out_after c =
     let d = c.decimal-k in
-    right-past d.new.out c.decimal-k.result c.args.n d.ensures.in_bounds d.ensures.len d.ensures.digits (search rules) c.args.width _ c.padding-pad.ensures _ _ _ c.fill.ensures
+    right-past d.new.out c.decimal-k.result c.args.n d.ensures.in_bounds d.ensures.len d.ensures.digits (search rules) c.args.width _ c.saturating_sub-pad.ensures _ _ _ c.fill.ensures
     (le_of_lt (no_room _ _ _ _ c.has_room.ensures (ap not c.if-not-has_room.true)))
 
 pub returns-then-not-has_room-clause-value : goal.returns-then-not-has_room-clause-value
 returns-then-not-has_room-clause-value c =
     let d = c.decimal-k in
-    right-long d.new.out d.result c.args.n d.ensures.in_bounds d.ensures.len d.ensures.digits (search rules) c.args.width _ c.padding-pad.ensures
+    right-long d.new.out d.result c.args.n d.ensures.in_bounds d.ensures.len d.ensures.digits (search rules) c.args.width _ c.saturating_sub-pad.ensures
 
 pub returns-clause-out_after : goal.returns-clause-out_after
 unfolding right_aligned
 returns-clause-out_after c =
     let d = c.decimal-k in
-    right_put d.new.out d.result c.args.n d.ensures.in_bounds d.ensures.len d.ensures.digits (search rules) c.args.width _ c.padding-pad.ensures _ _ _ c.fill.ensures _ c.copy.ensures
+    right_put d.new.out d.result c.args.n d.ensures.in_bounds d.ensures.len d.ensures.digits (search rules) c.args.width _ c.saturating_sub-pad.ensures _ _ _ c.fill.ensures _ c.copy.ensures
 
 pub returns-clause-value : goal.returns-clause-value
 returns-clause-value c =
     let d = c.decimal-k in
-    right-long d.new.out d.result c.args.n d.ensures.in_bounds d.ensures.len d.ensures.digits (search rules) c.args.width _ c.padding-pad.ensures
+    right-long d.new.out d.result c.args.n d.ensures.in_bounds d.ensures.len d.ensures.digits (search rules) c.args.width _ c.saturating_sub-pad.ensures

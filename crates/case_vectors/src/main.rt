@@ -3,16 +3,7 @@
 // A case is the book's length and the run's, two bytes each; the book; the run.
 #![tactic(auto)]
 
-use assembly::Assembly;
 use std::io::{Print, Read};
-
-fn print_answer(rt: &impl Print, r: Assembly, plan: &[u8], legs: &[u8]) {
-    let row = [r.code, r.place, r.commands, r.legs, r.sum];
-    vectors::print_numbers(rt, &row, 5);
-    vectors::print_bytes(rt, plan, r.commands as usize);
-    vectors::print_bytes(rt, legs, vectors::leg_bytes(r.legs));
-    vectors::print_longs(rt, &r.fewest, 33);
-}
 
 // One case, with buffers of the stated lengths.
 fn run_case(rt: &impl Print, book: &[u8], run: &[u8]) {
@@ -30,11 +21,14 @@ fn run_case(rt: &impl Print, book: &[u8], run: &[u8]) {
         &mut plan,
         &mut legs,
     );
-    print_answer(rt, r, &plan, &legs);
+    vectors::print_row(rt, &[r.code, r.place, r.commands, r.legs, r.sum]);
+    vectors::print_first(rt, &plan, r.commands as usize);
+    vectors::print_first(rt, &legs, vectors::leg_bytes(r.legs));
+    vectors::print_row(rt, &r.fewest);
 }
 
 // The file's next case.
-fn next_case<R: Print, F: Read>(rt: &R, file: &mut Option<F>) {
+fn next_case<R: Print, F: Read>(rt: &R, file: &mut F) {
     let mut head = [0u8; 2];
     let mut book = [0u8; 31179];
     let mut run = [0u8; 302];
@@ -43,8 +37,5 @@ fn next_case<R: Print, F: Read>(rt: &R, file: &mut Option<F>) {
 }
 
 fn main(rt: HostRuntime) {
-    let mut cases = vectors::open(&rt, b"cases.bin", 900);
-    for _ in 0..cases.count {
-        next_case(&rt, &mut cases.file);
-    }
+    vectors::run(&rt, "cases.bin", 900, |file| next_case(&rt, file));
 }

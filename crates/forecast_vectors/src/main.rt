@@ -2,28 +2,17 @@
 // A case is i, 8 bytes; the book's length, two bytes; the book.
 #![tactic(auto)]
 
-use forecast::Forecasted;
 use std::io::{Print, Read};
 
-fn print_answer(rt: &impl Print, r: Forecasted) {
-    let row = [r.code, r.place, r.units, r.plan_bytes, r.legs];
-    vectors::print_numbers(rt, &row, 5);
-}
-
 // The file's next case.
-fn next_case<R: Print, F: Read>(rt: &R, file: &mut Option<F>) {
+fn next_case<R: Print, F: Read>(rt: &R, file: &mut F) {
     let mut head = [0u8; 10];
     let mut book = [0u8; 31179];
     let size = vectors::next_book(file, &mut head, &mut book);
-    print_answer(
-        rt,
-        forecast::forecast(&book[..size], octets::u64_at(&head, 0)),
-    );
+    let r = forecast::forecast(&book[..size], octets::u64_at(&head, 0));
+    vectors::print_row(rt, &[r.code, r.place, r.units, r.plan_bytes, r.legs]);
 }
 
 fn main(rt: HostRuntime) {
-    let mut cases = vectors::open(&rt, b"forecasts.bin", 900);
-    for _ in 0..cases.count {
-        next_case(&rt, &mut cases.file);
-    }
+    vectors::run(&rt, "forecasts.bin", 900, |file| next_case(&rt, file));
 }

@@ -2,8 +2,8 @@
 // A case is a byte that says how buffers are lent; the book's length, two bytes; the book.
 #![tactic(auto)]
 
-use std::io::{Print, Read};
-use vectors::Lending;
+use std::io::Print;
+use vectors::{Cases, Lending};
 
 // The buffers of a case.
 #[derive(Drop)]
@@ -49,7 +49,8 @@ impl Buffers {
 }
 
 // One case: reading, then checking with the buffers as before reading, and what they hold after it.
-fn run_case(rt: &impl Print, lending: Lending, book: &[u8]) {
+fn run_case(rt: &impl Print, head: &[u8], book: &[u8]) {
+    let lending = Lending::of(octets::byte_at(head, 0), 3);
     let mut buffers = Buffers::new();
     let (table, slots, weights) = buffers.lend(lending);
     let r = reader::read(book, table, slots, weights);
@@ -63,14 +64,11 @@ fn run_case(rt: &impl Print, lending: Lending, book: &[u8]) {
     vectors::print_first(rt, weights, 32);
 }
 
-// The file's next case.
-fn next_case<R: Print, F: Read>(rt: &R, file: &mut F) {
-    let mut head = [0u8; 3];
-    let mut book = [0u8; 31179];
-    let size = vectors::next_book(file, &mut head, &mut book);
-    run_case(rt, Lending::of(head[0], 3), &book[..size]);
-}
-
 fn main(rt: HostRuntime) {
-    vectors::run(&rt, "books.bin", 600, |file| next_case(&rt, file));
+    let cases = Cases {
+        path: "books.bin",
+        count: 600,
+        head: 3,
+    };
+    cases.each_book(&rt, |head, book| run_case(&rt, head, book));
 }

@@ -3,7 +3,8 @@
 // A case is the book's length and the run's, two bytes each; the book; the run.
 #![tactic(auto)]
 
-use std::io::{Print, Read};
+use std::io::Print;
+use vectors::Cases;
 
 // One case, with buffers of the stated lengths.
 fn run_case(rt: &impl Print, book: &[u8], run: &[u8]) {
@@ -27,15 +28,11 @@ fn run_case(rt: &impl Print, book: &[u8], run: &[u8]) {
     vectors::print_row(rt, &r.fewest);
 }
 
-// The file's next case.
-fn next_case<R: Print, F: Read>(rt: &R, file: &mut F) {
-    let mut head = [0u8; 2];
-    let mut book = [0u8; 31179];
-    let mut run = [0u8; 302];
-    let sizes = vectors::next_case(file, &mut head, &mut book, &mut run);
-    run_case(rt, &book[..sizes.book], &run[..sizes.run]);
-}
-
 fn main(rt: HostRuntime) {
-    vectors::run(&rt, "cases.bin", 900, |file| next_case(&rt, file));
+    let cases = Cases {
+        path: "cases.bin",
+        count: 900,
+        head: 2,
+    };
+    cases.each_run(&rt, |_, book, run| run_case(&rt, book, run));
 }

@@ -4,19 +4,20 @@
 // book; the forward commands.
 #![tactic(auto)]
 
-use std::io::{Print, Read};
-use vectors::Lending;
+use std::io::Print;
+use vectors::{Cases, Lending};
 
 // One case.
-fn run_case(rt: &impl Print, head: &[u8; 19], book: &[u8], forward: &[u8]) {
+fn run_case(rt: &impl Print, head: &[u8], book: &[u8], forward: &[u8]) {
     let mut table = [0u64; 2053];
     vectors::pattern(&mut table);
+    let lending = Lending::of(octets::byte_at(head, 0), 2);
     let r = finder::find(
         book,
         forward,
         octets::u64_at(head, 1),
         octets::u64_at(head, 9),
-        &mut table[..Lending::of(head[0], 2).size(2053, 1)],
+        &mut table[..lending.size(2053, 1)],
     );
     let [first, second, third] = r.commands;
     vectors::print_row(
@@ -33,15 +34,13 @@ fn run_case(rt: &impl Print, head: &[u8; 19], book: &[u8], forward: &[u8]) {
     vectors::print_first(rt, &table, 16);
 }
 
-// The file's next case.
-fn next_case<R: Print, F: Read>(rt: &R, file: &mut F) {
-    let mut head = [0u8; 19];
-    let mut book = [0u8; 31179];
-    let mut forward = [0u8; 302];
-    let sizes = vectors::next_case(file, &mut head, &mut book, &mut forward);
-    run_case(rt, &head, &book[..sizes.book], &forward[..sizes.run]);
-}
-
 fn main(rt: HostRuntime) {
-    vectors::run(&rt, "finds.bin", 900, |file| next_case(&rt, file));
+    let cases = Cases {
+        path: "finds.bin",
+        count: 900,
+        head: 19,
+    };
+    cases.each_run(&rt, |head, book, forward| {
+        run_case(&rt, head, book, forward)
+    });
 }

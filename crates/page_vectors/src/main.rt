@@ -4,8 +4,8 @@
 #![tactic(auto)]
 
 use paper::Paged;
-use std::io::{Print, Read};
-use vectors::Lending;
+use std::io::Print;
+use vectors::{Cases, Lending};
 
 fn print_answer(rt: &impl Print, r: Paged, page: &[u8]) {
     let a = r.assembly;
@@ -17,7 +17,8 @@ fn print_answer(rt: &impl Print, r: Paged, page: &[u8]) {
 }
 
 // One case. The page holds 90 everywhere.
-fn run_case(rt: &impl Print, lending: Lending, book: &[u8], run: &[u8]) {
+fn run_case(rt: &impl Print, head: &[u8], book: &[u8], run: &[u8]) {
+    let lending = Lending::of(octets::byte_at(head, 0), 6);
     let mut table = [0u64; 2053];
     let mut slots = [0u8; 2181];
     let mut weights = [0u16; 37];
@@ -38,20 +39,11 @@ fn run_case(rt: &impl Print, lending: Lending, book: &[u8], run: &[u8]) {
     print_answer(rt, r, page);
 }
 
-// The file's next case.
-fn next_case<R: Print, F: Read>(rt: &R, file: &mut F) {
-    let mut head = [0u8; 3];
-    let mut book = [0u8; 31179];
-    let mut run = [0u8; 302];
-    let sizes = vectors::next_case(file, &mut head, &mut book, &mut run);
-    run_case(
-        rt,
-        Lending::of(head[0], 6),
-        &book[..sizes.book],
-        &run[..sizes.run],
-    );
-}
-
 fn main(rt: HostRuntime) {
-    vectors::run(&rt, "pages.bin", 700, |file| next_case(&rt, file));
+    let cases = Cases {
+        path: "pages.bin",
+        count: 700,
+        head: 3,
+    };
+    cases.each_run(&rt, |head, book, run| run_case(&rt, head, book, run));
 }

@@ -3,11 +3,12 @@
 // A case is a byte that says how buffers are lent; the book's length and the run's, two bytes each; the book; the run.
 #![tactic(auto)]
 
-use std::io::{Print, Read};
-use vectors::Lending;
+use std::io::Print;
+use vectors::{Cases, Lending};
 
 // One case.
-fn run_case(rt: &impl Print, lending: Lending, book: &[u8], run: &[u8]) {
+fn run_case(rt: &impl Print, head: &[u8], book: &[u8], run: &[u8]) {
+    let lending = Lending::of(octets::byte_at(head, 0), 4);
     let mut scratch = [0u64; 69];
     let mut plan = [0u8; 261];
     let mut legs = [0u8; 101];
@@ -26,20 +27,11 @@ fn run_case(rt: &impl Print, lending: Lending, book: &[u8], run: &[u8]) {
     vectors::print_first(rt, &scratch, if r.code == 1 { 8 } else { 0 });
 }
 
-// The file's next case.
-fn next_case<R: Print, F: Read>(rt: &R, file: &mut F) {
-    let mut head = [0u8; 3];
-    let mut book = [0u8; 31179];
-    let mut run = [0u8; 302];
-    let sizes = vectors::next_case(file, &mut head, &mut book, &mut run);
-    run_case(
-        rt,
-        Lending::of(head[0], 4),
-        &book[..sizes.book],
-        &run[..sizes.run],
-    );
-}
-
 fn main(rt: HostRuntime) {
-    vectors::run(&rt, "small.bin", 700, |file| next_case(&rt, file));
+    let cases = Cases {
+        path: "small.bin",
+        count: 700,
+        head: 3,
+    };
+    cases.each_run(&rt, |head, book, run| run_case(&rt, head, book, run));
 }

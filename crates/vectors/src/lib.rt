@@ -18,31 +18,6 @@ pub fn part(s: &[u8], at: usize, len: usize) -> &[u8]
     &rest[..len.min(rest.len())]
 }
 
-// Runs so many cases of a file, each by a call with the file where the case begins, and answers how many were run. None are where the file can't be
-// opened, which is said on standard error.
-pub fn run<R: Files + Eprint, C: FnMut(&mut R::File)>(
-    rt: &R,
-    path: &str,
-    count: u64,
-    mut case: C,
-) -> u64
-    requires { C.IsAlwaysCallable case }
-    ensures { result ≤ count }
-{
-    match File::open(rt, path) {
-        Ok(mut file) => {
-            for _ in 0..count {
-                case(&mut file);
-            }
-            count
-        }
-        Err(error) => {
-            let _ = eprintln!(rt; "{path}: {error}");
-            0
-        }
-    }
-}
-
 // The file's next bytes, as many as asked for or as there is room. The answer is their number.
 fn read_part(file: &mut impl Read, size: u16, buf: &mut [u8]) -> usize
     ensures { IsPrefixLen result buf.new }
@@ -59,37 +34,78 @@ fn last_two(head: &[u8]) -> u16 {
     }
 }
 
-// The file's next case: its head, whose last two bytes are the book's length, and the book. The answer is the number of the book's bytes.
-pub fn next_book(file: &mut impl Read, head: &mut [u8], book: &mut [u8]) -> usize
-    ensures { IsPrefixLen result book.new }
-{
-    files::read_full(file, head);
-    read_part(file, last_two(head), book)
+// The number in the file's next two bytes.
+fn next_two(file: &mut impl Read) -> u16 {
+    let mut bytes = [0; 2];
+    files::read_full(file, &mut bytes);
+    u16::from_le_bytes(bytes)
 }
 
-// How many bytes a case's book and run have.
-#[derive(Drop)]
-pub struct Sizes {
-    pub book: usize,
-    pub run: usize,
+// A file of so many cases, each of which begins with a head of so many bytes, at most 575.
+#[derive(Clone, Copy)]
+pub struct Cases<'a> {
+    pub path: &'a str,
+    pub count: u64,
+    pub head: usize,
 }
 
-// The file's next case: its head, whose last two bytes are the book's length; the run's, two bytes; the book; the run.
-pub fn next_case(
-    file: &mut impl Read,
-    head: &mut [u8],
-    book: &mut [u8],
-    run: &mut [u8],
-) -> Sizes
-    ensures prefix_len { IsPrefixLen result.book book.new }
-    ensures prefix_len_2 { IsPrefixLen result.run run.new }
-{
-    let mut run_size = [0u8; 2];
-    files::read_full(file, head);
-    files::read_full(file, &mut run_size);
-    let book = read_part(file, last_two(head), book);
-    let run = read_part(file, u16::from_le_bytes(run_size), run);
-    Sizes { book, run }
+impl Cases<'_> {
+    // Runs the cases, each by a call with the file, of which the head has been read, and the head. The answer is how many were run; none are where the
+    // file can't be opened, which is said on standard error.
+    pub fn each<R: Files + Eprint, C: FnMut(&mut R::File, &[u8])>(self, rt: &R, mut case: C) -> u64
+        requires { (state : C) (file head : _) → C.pre state file head }
+        ensures { result ≤ self.entry.count }
+    {
+        let Cases { path, count, head } = self;
+        match File::open(rt, path) {
+            Ok(mut file) => {
+                for _ in 0..count {
+                    let mut bytes = [0; 575];
+                    let head = &mut bytes[..head.min(575)];
+                    files::read_full(&mut file, head);
+                    case(&mut file, head);
+                }
+                count
+            }
+            Err(error) => {
+                let _ = eprintln!(rt; "{path}: {error}");
+                0
+            }
+        }
+    }
+
+    // Runs cases of a head, whose last two bytes are the book's length, and the book.
+    pub fn each_book<R: Files + Eprint, C: FnMut(&[u8], &[u8])>(self, rt: &R, mut case: C) -> u64
+        requires { (state : C) (head book : _) → C.pre state head book }
+        ensures { result ≤ self.entry.count }
+    {
+        self.each(rt, |file, head| {
+            let mut book = [0; 31179];
+            let book_size = read_part(file, last_two(head), &mut book);
+            case(head, &book[..book_size]);
+        })
+    }
+
+    // Runs cases of a head, whose last two bytes are the book's length; the run's length, two bytes; the book; the run.
+    pub fn each_run<R: Files + Eprint, C: FnMut(&[u8], &[u8], &[u8])>(
+        self,
+        rt: &R,
+        mut case: C,
+    ) -> u64
+        requires { (state : C) (head book run : _) → C.pre state head book run }
+        ensures { result ≤ self.entry.count }
+    {
+        self.each(rt, |file, head|
+            requires { (book run : _) → C.pre case head book run }
+        {
+            let mut book = [0; 31179];
+            let mut run = [0; 302];
+            let run_size = next_two(file);
+            let book_size = read_part(file, last_two(head), &mut book);
+            let run_size = read_part(file, run_size, &mut run);
+            case(head, &book[..book_size], &run[..run_size]);
+        })
+    }
 }
 
 // How a case lends its buffers, each of which is five longer than stated.
@@ -98,12 +114,12 @@ pub enum Lending {
     // Whole.
     Longer,
     // As stated, but for the buffer of this number, of which one less is lent.
-    Short(u8),
+    Short(u64),
 }
 
 impl Lending {
     // What a case's kind says, where that of the longer ones is `longer`.
-    pub fn of(kind: u8, longer: u8) -> Lending
+    pub fn of(kind: u64, longer: u64) -> Lending
         ensures longer { kind ≡ longer → result ≡ Longer }
         ensures others { kind ≢ longer → result ≡ Short kind }
     {
@@ -115,7 +131,7 @@ impl Lending {
     }
 
     // How much is lent of the buffer of that number.
-    pub fn size(self, whole: usize, number: u8) -> usize
+    pub fn size(self, whole: usize, number: u64) -> usize
         ensures upper_bound { result ≤ whole }
         ensures longer { self ≡ Longer → result ≡ whole }
         ensures short { self ≡ Short number → result ≡ whole - 6 }

@@ -3,8 +3,8 @@
 // each; 3 slots.
 #![tactic(auto)]
 
-use std::io::{Print, Read};
-use vectors::Lending;
+use std::io::Print;
+use vectors::{Cases, Lending};
 
 // One case: code, place and length on a line; the output's bytes 0 to length + 3 on the next.
 fn run_case(rt: &impl Print, case: &[u8; 575]) {
@@ -19,7 +19,7 @@ fn run_case(rt: &impl Print, case: &[u8; 575]) {
         *entry = u64::from_le_bytes(*bytes);
     }
     slots[..102].copy_from_slice(&case[473..]);
-    let lending = Lending::Short(case[24]);
+    let lending = Lending::Short(case[24].into());
     let r = writer::write(
         octets::u64_at(case, 0),
         octets::u64_at(case, 8),
@@ -35,13 +35,15 @@ fn run_case(rt: &impl Print, case: &[u8; 575]) {
     }
 }
 
-// The file's next case.
-fn next_case<R: Print, F: Read>(rt: &R, file: &mut F) {
-    let mut case = [0u8; 575];
-    files::read_full(file, &mut case);
-    run_case(rt, &case);
-}
-
 fn main(rt: HostRuntime) {
-    vectors::run(&rt, "writes.bin", 500, |file| next_case(&rt, file));
+    let cases = Cases {
+        path: "writes.bin",
+        count: 500,
+        head: 575,
+    };
+    cases.each(&rt, |_, head| {
+        if let Some(case) = head.first_chunk() {
+            run_case(&rt, case);
+        }
+    });
 }

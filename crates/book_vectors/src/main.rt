@@ -2,134 +2,73 @@
 // A case is a byte that says how buffers are lent; the book's length, two bytes; the book.
 #![tactic(auto)]
 
-use checker::Checking;
-use reader::Reading;
-use std::io::{Print, Read};
+use std::io::Print;
+use vectors::{Cases, Lending};
 
-// The slots before a call: the index mod 251 at each byte.
-fn pattern_slots(slots: &mut [u8]) {
-    for i in 0..slots.len() {
-        slots[i] = (i % 251) as u8;
+// The buffers of a case.
+#[derive(Drop)]
+struct Buffers {
+    table: [u64; 2053],
+    slots: [u8; 2181],
+    weights: [u16; 37],
+}
+
+impl Buffers {
+    // As they are before a call: the table's pattern, the index mod 251 in the slots, 40,000 + index in the weights.
+    fn new() -> Buffers {
+        let mut table = [0; 2053];
+        let mut slots = [0; 2181];
+        let mut weights = [0; 37];
+        vectors::pattern(&mut table);
+        for (i, slot) in slots.iter_mut().enumerate() {
+            *slot = (i % 251) as u8;
+        }
+        for (i, weight) in weights.iter_mut().enumerate() {
+            *weight = 40000 + i as u16;
+        }
+        Buffers {
+            table,
+            slots,
+            weights,
+        }
+    }
+
+    // What a case lends of them.
+    fn lend(&mut self, lending: Lending) -> (&mut [u64], &mut [u8], &mut [u16]) {
+        let Buffers {
+            table,
+            slots,
+            weights,
+        } = self;
+        (
+            &mut table[..lending.size(2053, 1)],
+            &mut slots[..lending.size(2181, 2)],
+            &mut weights[..lending.size(37, 4)],
+        )
     }
 }
 
-// The weights before a call: 40,000 + index at each.
-fn pattern_weights(weights: &mut [u16]) {
-    for i in 0..weights.len() {
-        weights[i] = (40000 + i % 1000) as u16;
-    }
-}
-
-fn print_reading(rt: &impl Print, r: Reading) {
-    let row = [r.code, r.place, r.n, r.m, r.items];
-    vectors::print_numbers(rt, &row, 5);
-}
-
-fn print_checking(rt: &impl Print, r: Checking) {
-    let row = [r.code, r.place, r.n, r.m, r.items, r.units];
-    vectors::print_numbers(rt, &row, 6);
-}
-
-fn read_case(
-    rt: &impl Print,
-    book: &[u8],
-    table: &mut [u64],
-    slots: &mut [u8],
-    weights: &mut [u16],
-) {
-    vectors::pattern(table);
-    pattern_slots(slots);
-    pattern_weights(weights);
-    print_reading(rt, reader::read(book, table, slots, weights));
-}
-
-fn check_case(
-    rt: &impl Print,
-    book: &[u8],
-    table: &mut [u64],
-    slots: &mut [u8],
-    weights: &mut [u16],
-) {
-    vectors::pattern(table);
-    pattern_slots(slots);
-    pattern_weights(weights);
-    print_checking(rt, checker::check(book, table, slots, weights));
-}
-
-// One case: reading, then checking with the buffers as before reading.
-fn run_case(
-    rt: &impl Print,
-    book: &[u8],
-    table: &mut [u64],
-    slots: &mut [u8],
-    weights: &mut [u16],
-) {
-    read_case(rt, book, table, slots, weights);
-    check_case(rt, book, table, slots, weights);
-    vectors::print_numbers(rt, table, 40);
-    vectors::print_bytes(rt, slots, 102);
-    vectors::print_words(rt, weights, 32);
-}
-
-// The case with buffers of the lengths that its first byte names.
-fn run_with(rt: &impl Print, kind: u64, book: &[u8]) {
-    let mut table = [0u64; 2053];
-    let mut slots = [0u8; 2181];
-    let mut weights = [0u16; 37];
-    if kind == 1 {
-        run_case(
-            rt,
-            book,
-            &mut table[..2047],
-            &mut slots[..2176],
-            &mut weights[..32],
-        );
-        return;
-    }
-    if kind == 2 {
-        run_case(
-            rt,
-            book,
-            &mut table[..2048],
-            &mut slots[..2175],
-            &mut weights[..32],
-        );
-        return;
-    }
-    if kind == 3 {
-        run_case(rt, book, &mut table, &mut slots, &mut weights);
-        return;
-    }
-    if kind == 4 {
-        run_case(
-            rt,
-            book,
-            &mut table[..2048],
-            &mut slots[..2176],
-            &mut weights[..31],
-        );
-        return;
-    }
-    run_case(
-        rt,
-        book,
-        &mut table[..2048],
-        &mut slots[..2176],
-        &mut weights[..32],
-    );
-}
-
-// The file's next case.
-fn next_case<R: Print, F: Read>(rt: &R, file: &mut Option<F>) {
-    let mut head = [0u8; 3];
-    let mut book = [0u8; 31179];
-    let size = vectors::next_book(file, &mut head, &mut book);
-    run_with(rt, octets::byte_at(&head, 0), &book[..size]);
+// One case: reading, then checking with the buffers as before reading, and what they hold after it.
+fn run_case(rt: &impl Print, head: &[u8], book: &[u8]) {
+    let lending = Lending::of(octets::byte_at(head, 0), 3);
+    let mut buffers = Buffers::new();
+    let (table, slots, weights) = buffers.lend(lending);
+    let r = reader::read(book, table, slots, weights);
+    vectors::print_row(rt, &[r.code, r.place, r.n, r.m, r.items]);
+    let mut buffers = Buffers::new();
+    let (table, slots, weights) = buffers.lend(lending);
+    let r = checker::check(book, table, slots, weights);
+    vectors::print_row(rt, &[r.code, r.place, r.n, r.m, r.items, r.units]);
+    vectors::print_first(rt, table, 40);
+    vectors::print_first(rt, slots, 102);
+    vectors::print_first(rt, weights, 32);
 }
 
 fn main(rt: HostRuntime) {
-    let mut cases = vectors::open(&rt, b"books.bin", 600);
-    for _ in 0..cases.count {
-        next_case(&rt, &mut cases.file);
-    }
+    let cases = Cases {
+        path: "books.bin",
+        count: 600,
+        head: 3,
+    };
+    cases.each_book(&rt, |head, book| run_case(&rt, head, book));
 }

@@ -3,16 +3,8 @@
 // A case is the book's length and the run's, two bytes each; the book; the run.
 #![tactic(auto)]
 
-use assembly::Assembly;
-use std::io::{Print, Read};
-
-fn print_answer(rt: &impl Print, r: Assembly, plan: &[u8], legs: &[u8]) {
-    let row = [r.code, r.place, r.commands, r.legs, r.sum];
-    vectors::print_numbers(rt, &row, 5);
-    vectors::print_bytes(rt, plan, r.commands as usize);
-    vectors::print_bytes(rt, legs, vectors::leg_bytes(r.legs));
-    vectors::print_longs(rt, &r.fewest, 33);
-}
+use std::io::Print;
+use vectors::Cases;
 
 // One case, with buffers of the stated lengths.
 fn run_case(rt: &impl Print, book: &[u8], run: &[u8]) {
@@ -30,21 +22,17 @@ fn run_case(rt: &impl Print, book: &[u8], run: &[u8]) {
         &mut plan,
         &mut legs,
     );
-    print_answer(rt, r, &plan, &legs);
-}
-
-// The file's next case.
-fn next_case<R: Print, F: Read>(rt: &R, file: &mut Option<F>) {
-    let mut head = [0u8; 2];
-    let mut book = [0u8; 31179];
-    let mut run = [0u8; 302];
-    let sizes = vectors::next_case(file, &mut head, &mut book, &mut run);
-    run_case(rt, &book[..sizes.book], &run[..sizes.run]);
+    vectors::print_row(rt, &[r.code, r.place, r.commands, r.legs, r.sum]);
+    vectors::print_first(rt, &plan, r.commands as usize);
+    vectors::print_first(rt, &legs, vectors::leg_bytes(r.legs));
+    vectors::print_row(rt, &r.fewest);
 }
 
 fn main(rt: HostRuntime) {
-    let mut cases = vectors::open(&rt, b"cases.bin", 900);
-    for _ in 0..cases.count {
-        next_case(&rt, &mut cases.file);
-    }
+    let cases = Cases {
+        path: "cases.bin",
+        count: 900,
+        head: 2,
+    };
+    cases.each_run(&rt, |_, book, run| run_case(&rt, book, run));
 }

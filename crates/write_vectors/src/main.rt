@@ -3,97 +3,47 @@
 // each; 3 slots.
 #![tactic(auto)]
 
-ghost use Rattle.std.specs.Prelude.{◌≤◌};
+use std::io::Print;
+use vectors::{Cases, Lending};
 
-use std::io::{Print, Read};
-use writer::Writing;
-
-// The case's weights.
-fn fill_weights(case: &[u8], weights: &mut [u16]) {
-    let mut i: usize = 0;
-    while i < 32 {
-        if weights.len() <= i {
-            return;
-        }
-        weights[i] = octets::u16_at(case, 25 + 2 * i) as u16;
-        i = i + 1;
+// One case: code, place and length on a line; the output's bytes 0 to length + 3 on the next.
+fn run_case(rt: &impl Print, case: &[u8; 575]) {
+    let mut table = [0u64; 2053];
+    let mut slots = [0u8; 2181];
+    let mut weights = [0u16; 37];
+    let mut out = [90u8; 31183];
+    for (weight, bytes) in weights.iter_mut().zip(case[25..89].as_chunks().0) {
+        *weight = u16::from_le_bytes(*bytes);
     }
-}
-
-// The case's entries; all later ones stay.
-fn fill_table(case: &[u8], table: &mut [u64]) {
-    let mut i: usize = 0;
-    while i < 48 {
-        if table.len() <= i {
-            return;
-        }
-        table[i] = octets::u64_at(case, 89 + 8 * i);
-        i = i + 1;
+    for (entry, bytes) in table.iter_mut().zip(case[89..473].as_chunks().0) {
+        *entry = u64::from_le_bytes(*bytes);
     }
-}
-
-// The stated length of a buffer, or one less.
-fn size(stated: usize, short: bool) -> usize
-    ensures { result ≤ stated }
-{
-    if stated == 0 {
-        return 0;
-    }
-    if short { stated - 1 } else { stated }
-}
-
-// Writes; each buffer is lent on whole, or one short.
-fn write_case(
-    case: &[u8],
-    table: &[u64],
-    slots: &[u8],
-    weights: &[u16],
-    out: &mut [u8],
-) -> Writing {
-    let short = octets::byte_at(case, 24);
-    let table_size = size(table.len(), short == 2);
-    let slots_size = size(slots.len(), short == 3);
-    let weights_size = size(weights.len(), short == 4);
-    let out_size = size(out.len(), short == 1);
-    writer::write(
+    slots[..102].copy_from_slice(&case[473..]);
+    let lending = Lending::Short(case[24].into());
+    let r = writer::write(
         octets::u64_at(case, 0),
         octets::u64_at(case, 8),
         octets::u64_at(case, 16),
-        &table[..table_size],
-        &slots[..slots_size],
-        &weights[..weights_size],
-        &mut out[..out_size],
-    )
-}
-
-// One case: code, place and length on a line; the output's bytes 0 to length + 3 on the next.
-fn run(rt: &impl Print, case: &[u8]) {
-    let mut table = [0u64; 2048];
-    let mut slots = [0u8; 2176];
-    let mut weights = [0u16; 32];
-    let mut out = [90u8; 31178];
-    fill_weights(case, &mut weights);
-    fill_table(case, &mut table);
-    octets::copy(102, case, 473, &mut slots, 0);
-    let r = write_case(case, &table, &slots, &weights, &mut out);
-    let row = [r.code, r.place, r.length];
-    vectors::print_numbers(rt, &row, 3);
-    let length = r.length;
-    if length < 31175 {
-        vectors::print_bytes(rt, &out, length as usize + 4);
+        &table[..lending.size(2053, 2)],
+        &slots[..lending.size(2181, 3)],
+        &weights[..lending.size(37, 4)],
+        &mut out[..lending.size(31183, 1)],
+    );
+    vectors::print_row(rt, &[r.code, r.place, r.length]);
+    if r.length < 31175 {
+        vectors::print_first(rt, &out, r.length as usize + 4);
     }
-}
-
-// The file's next case.
-fn next_case<R: Print, F: Read>(rt: &R, file: &mut Option<F>) {
-    let mut case = [0u8; 575];
-    vectors::read_full(file, &mut case);
-    run(rt, &case);
 }
 
 fn main(rt: HostRuntime) {
-    let mut cases = vectors::open(&rt, b"writes.bin", 500);
-    for _ in 0..cases.count {
-        next_case(&rt, &mut cases.file);
-    }
+    let cases = Cases {
+        path: "writes.bin",
+        count: 500,
+        head: 575,
+    };
+    cases.each(&rt, |_, head| {
+        if let Some(case) = head.first_chunk() {
+            run_case(&rt, case);
+        }
+    });
 }

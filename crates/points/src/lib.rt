@@ -108,9 +108,7 @@ fn best(row: u64, ks: &[u8; 64], prices: &[u32; 64], fewest: &[u32; 33], j: u64)
         number: NONE,
         item: 0,
     };
-    let mut rest = row;
-    while rest != 0 {
-        let a = u64::trailing_zeros(rest);
+    for a in StateSet::of(row) {
         let low = j - ks[a as usize] as u64;
         let sum = u64::from(prices[a as usize]) + u64::from(fewest[low as usize]);
         if sum < choice.number {
@@ -119,7 +117,6 @@ fn best(row: u64, ks: &[u8; 64], prices: &[u32; 64], fewest: &[u32; 33], j: u64)
                 item: a as u8,
             };
         }
-        rest &= rest - 1;
     }
     choice
 }

@@ -1,14 +1,12 @@
--- `best`: the choice so far and the items that are left give the choice.
-use Rattle.std.proofs.Common.{◌≡◌, true, ℕ}
-use Rattle.base.specs.Cardinality.{member}
-use Rattle.base.proofs.Visits.{Left}
+-- `best`: with the items to come, the choice so far becomes the choice, and none of them goes down further than point j.
+use Rattle.std.proofs.Common.{◌≤◌, get_or}
+use Rattle.base.specs.Lists.{Each}
+use Rattle.states.specs.StateSets.{states_left}
+use Rattle.states.proofs.Row.{Coming}
 use Rattle.points.specs.Rows.{cheaper, cheapest}
 use Rattle.points.proofs.best.Given as goal
 
-abbrev pub invariant-loop-rest : goal.invariant-loop-rest
-invariant-loop-rest l =
-    Left (cheaper l.ks l.prices l.fewest l.j) 64 (cheapest l.ks l.prices l.fewest l.j l.row) l.choice l.rest
-    × ((s : ℕ) → member l.rest s ≡ true → member l.row s ≡ true)
-
-abbrev pub decreases-loop-rest : goal.decreases-loop-rest
-decreases-loop-rest l = l.rest
+abbrev pub invariant-loop-a : goal.invariant-loop-a
+invariant-loop-a l =
+    Coming (cheaper l.ks l.prices l.fewest l.j) 64 (cheapest l.ks l.prices l.fewest l.j l.row) l.choice (states_left l.a-iterator)
+    × Each (λ a. get_or l.ks a 0 ≤ l.j) (states_left l.a-iterator)

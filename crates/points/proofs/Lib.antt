@@ -4,6 +4,7 @@ pub mod Rows
 pub mod ReverseSum
 pub mod ItemsRead
 pub mod BestItem
+pub mod Choosing
 pub mod Numbers
 pub mod LinksAgree
 pub mod ItemsFit

@@ -59,13 +59,13 @@ module _ (d : Device) (r : Run) (i : ℕ) where
                 rw z (get_or-set_same sets (j + 1) w 0 (omega (arith, g.size, g.few)) ∙ new ∙ ap (filtered d r) (sym (add-one j)))
             go (no q) = get_or-set_other sets (j + 1) k w 0 (λ z. omega arith) ∙ g.each k (omega arith)
 
-    pub backward_start : j ≡ i → Backward d r i j sets
+    pub backward_start : j ≡ i → Backward d r i i sets
     unfolding smoothed
     backward_start e =
         record {
           size = g.size;
           few = g.few;
-          low = g.low;
+          low = omega arith;
           below = λ l h. g.each l (omega arith);
           above = λ l a b. let z : i - l ≡ 0 = omega arith in rw z (g.each l (omega arith));
         }

@@ -17,17 +17,8 @@ use Rattle.base.specs.Masks.{added, inside}
 use Rattle.base.proofs.Added.{one_more_member, one_more_other}
 use Rattle.base.proofs.Masks.{added-here}
 use Rattle.reversal.specs.Computed.Least.{Links}
-use Rattle.octets.specs.Parts.{le_at}
 use Rattle.points.specs.declared.Asked.{Asked}
-use Rattle.points.specs.Rows.{Ahead, asks_at, Marked}
-
--- ---- the run's commands ahead
-pub ahead_next : (s : List ℕ) (j v : ℕ) (ahead : List ℕ) → Ahead s j ahead → j < length ahead → v ≡ le_at 8 s (5 + j) → Ahead s (j + 1) (set ahead j v)
-ahead_next s j v ahead g l e y h = go (dec_lt y j)
-  where
-    go : Dec (y < j) → get_or (set ahead j v) y 0 ≡ le_at 8 s (5 + y)
-    go (yes b) = get_or-set_other ahead j y v 0 (λ z. omega arith) ∙ g y b
-    go (no n) = let z : y ≡ j = omega arith in rw z (get_or-set_same ahead j v 0 l ∙ e)
+use Rattle.points.specs.Rows.{asks_at, Marked}
 
 -- ---- each way through the tests
 module _ (q : Asked) (ahead sets : List ℕ) (j : ℕ) (l : q.k ≤ j) where

@@ -9,6 +9,6 @@ use Rattle.runs.specs.Computed.{last_of, run_of}
 pub record Believed (d : Device) (r : Run) (sets : List ℕ) : Type 0 where
   pub each : (j : ℕ) → j ≤ last r → get_or sets j 0 ≡ belief d r j
 
--- the contract of `beliefs`, of a device with n states and m commands: it speaks of devices and runs within their limits, and of 33 masks or more
-pub record BeliefsAs (n m : ℕ) (d : Device) (run sets sets' : List ℕ) : Type 0 where
-  pub believed : n ≤ 64 → m ≤ 32 → last_of run ≤ 32 → 33 ≤ length sets → Believed d (run_of run) sets'
+-- the contract of `beliefs`: it speaks of devices and runs within their limits, and of 33 masks or more
+pub record BeliefsAs (d : Device) (run sets sets' : List ℕ) : Type 0 where
+  pub believed : d.n ≤ 64 → d.m ≤ 32 → last_of run ≤ 32 → 33 ≤ length sets → Believed d (run_of run) sets'

@@ -15,6 +15,9 @@ ghost use Rattle.points.specs.Rows.{AskedOf, Ahead, asks_at, Marked, cheapest};
 use items::Parts;
 use states::StateSet;
 
+// The sum of a point that has no chain.
+const NONE: u64 = 4294967295;
+
 // What an item asks: its forward commands as one number, lowest byte first, with the mask of as many bytes; the states above and below.
 #[derive(Clone, Copy)]
 pub struct Asked {
@@ -35,11 +38,11 @@ fn asked_by(book: &[u8], item: Parts) -> Asked
     let phi = items::phi(book, item);
     let psi = items::psi(book, item);
     Asked {
-        k: k,
-        mask: mask,
+        k,
+        mask,
         commands: commands & mask,
-        phi: phi,
-        psi: psi,
+        phi,
+        psi,
     }
 }
 
@@ -48,10 +51,8 @@ fn look_ahead(run: &[u8], i: u64, ahead: &mut [u64; 33])
     requires { (i ≤ 32) × (length ahead.old ≡ 33) }
     ensures { Ahead run.now i ahead.new }
 {
-    let mut j: u64 = 0;
-    while j < i {
-        ahead[j as usize] = octets::u64_at(run, 5 + j as usize);
-        j = j + 1;
+    for j in 0..i as usize {
+        ahead[j] = octets::u64_at(run, 5 + j);
     }
 }
 
@@ -61,13 +62,9 @@ fn fits_at(item: Asked, ahead: &[u64; 33], sets: &[u64; 33], j: u64) -> bool
     ensures { result ≡ asks_at item ahead.now sets.now j }
 {
     let low = j - item.k;
-    if ahead[low as usize] & item.mask != item.commands {
-        return false;
-    }
-    if !StateSet::of(sets[j as usize]).is_inside(item.phi) {
-        return false;
-    }
-    StateSet::of(sets[low as usize]).is_inside(item.psi)
+    ahead[low as usize] & item.mask == item.commands
+        && StateSet::of(sets[j as usize]).is_inside(item.phi)
+        && StateSet::of(sets[low as usize]).is_inside(item.psi)
 }
 
 // Adds item a to the row of each point up to i from which it fits.
@@ -75,12 +72,10 @@ fn mark(item: Asked, a: u64, ahead: &[u64; 33], sets: &[u64; 33], i: u64, rows: 
     requires { (a < 64) × (i ≤ 32) × (length rows.old ≡ 33) }
     ensures { Marked item ahead.now sets.now a i rows.old rows.new }
 {
-    let mut j = item.k;
-    while j <= i {
+    for j in item.k..=i {
         if fits_at(item, ahead, sets, j) {
-            rows[j as usize] = rows[j as usize] | (1 << a);
+            rows[j as usize] |= 1 << a;
         }
-        j = j + 1;
     }
 }
 
@@ -89,24 +84,16 @@ fn price(book: &[u8], item: Parts, weights: &[u16]) -> u64
     requires { (item.r < 256) × (item.reverse + item.r ≤ item.next) }
     ensures { (result ≡ sum_of weights.now (held_in book.now item).reverse) × (result < 16777216) }
 {
-    let mut sum: u64 = 0;
+    let mut sum = 0;
     for x in 0..item.r {
         let command = octets::byte_at(book, item.reverse + x);
-        let weight = octets::word_at(weights, command as usize);
-        sum = sum + weight;
+        sum += octets::word_at(weights, command as usize);
     }
     sum
 }
 
-// With its bound, for the sum.
-fn wide(x: u32) -> u64
-    ensures { (result ≡ x) × (result < 4294967296) }
-{
-    x as u64
-}
-
 // A sum, and the item that begins a chain with it.
-#[derive(Drop)]
+#[derive(Clone, Copy)]
 pub struct Choice {
     pub number: u64,
     pub item: u8,
@@ -117,23 +104,21 @@ fn best(row: u64, ks: &[u8; 64], prices: &[u32; 64], fewest: &[u32; 33], j: u64)
     requires { (j ≤ 32) × ((a : ℕ) → member row a ≡ true → get_or ks.now a 0 ≤ j) }
     ensures { result ≡ cheapest ks.now prices.now fewest.now j row }
 {
-    let mut number: u64 = 4294967295;
-    let mut first: u8 = 0;
-    let mut rest = row;
-    while rest != 0 {
-        let a = u64::trailing_zeros(rest);
+    let mut choice = Choice {
+        number: NONE,
+        item: 0,
+    };
+    for a in StateSet::of(row) {
         let low = j - ks[a as usize] as u64;
-        let sum = wide(prices[a as usize]) + wide(fewest[low as usize]);
-        if sum < number {
-            number = sum;
-            first = a as u8;
+        let sum = u64::from(prices[a as usize]) + u64::from(fewest[low as usize]);
+        if sum < choice.number {
+            choice = Choice {
+                number: sum,
+                item: a as u8,
+            };
         }
-        rest = rest & (rest - 1);
     }
-    Choice {
-        number: number,
-        item: first,
-    }
+    choice
 }
 
 // The least sum for each of the 33 points, and the item that begins a chain with it.
@@ -146,7 +131,7 @@ pub struct Points {
 // No point has a chain.
 fn no_points() -> Points {
     Points {
-        fewest: [4294967295u32; 33],
+        fewest: [NONE as u32; 33],
         items: [0u8; 33],
     }
 }
@@ -165,10 +150,7 @@ pub fn points_of(
     ensures { PointsAs (recorded book.now places.now) weights.now run.now sets.now count i
         result.fewest result.items }
 {
-    if 64 < count {
-        return no_points();
-    }
-    if 32 < i {
+    if 64 < count || 32 < i {
         return no_points();
     }
     let mut ahead = [0u64; 33];
@@ -178,28 +160,20 @@ pub fn points_of(
     let mut prices = [0u32; 64];
     for a in 0..count {
         let item = items::parts_at(book, octets::word_at(places, a as usize) as usize);
-        if item.k < 1 {
-            return no_points();
-        }
-        if 8 < item.k {
+        if item.k < 1 || 8 < item.k {
             return no_points();
         }
         ks[a as usize] = item.k as u8;
         prices[a as usize] = price(book, item, weights) as u32;
         mark(asked_by(book, item), a, &ahead, sets, i, &mut rows);
     }
-    let mut fewest = [4294967295u32; 33];
+    let mut fewest = [NONE as u32; 33];
     let mut items = [0u8; 33];
     fewest[0] = 0;
-    let mut j: u64 = 0;
-    while j < i {
-        let choice = best(rows[j as usize + 1], &ks, &prices, &fewest, j + 1);
-        fewest[j as usize + 1] = choice.number as u32;
-        items[j as usize + 1] = choice.item;
-        j = j + 1;
+    for j in 1..=i {
+        let choice = best(rows[j as usize], &ks, &prices, &fewest, j);
+        fewest[j as usize] = choice.number as u32;
+        items[j as usize] = choice.item;
     }
-    Points {
-        fewest: fewest,
-        items: items,
-    }
+    Points { fewest, items }
 }

@@ -1,6 +1,7 @@
 -- The ways through assembling, over checking's contract. Assumes nothing.
 use mathlib.Core.Path.{◌≡◌, refl, sym, ap, ap₂, ◌∙◌, subst, subst₂}
-use mathlib.Core.Bool.{true, false}
+use mathlib.Core.Bool.{true, false, not}
+use borrow.Author.Tests.{not-true}
 use mathlib.Core.List.{List}
 use Prim.Native.Nat.{ℕ, ◌≤◌, ◌<◌}
 use native.Mathlib.Omega.{arith}
@@ -15,7 +16,10 @@ use Rattle.reversal.specs.Runs.{AllowedRun, last}
 use Rattle.reversal.specs.Chains.{absent, none}
 use Rattle.reversal.specs.Answers.{Allowed}
 use Rattle.book.specs.Book.{Book, device_of, items_for}
+use Rattle.book.specs.Faults.{code_of}
 use Rattle.book.specs.Lent.{Lent}
+use Rattle.book.specs.declared.fault.Fault.{Fault}
+use Rattle.book.specs.declared.fault.Fault.TheVariants.{ShortBuffer, CutOff, WrongKind, WrongLength, OutOfRange, NotRising, TooManyItems, NoReversePlan, WrongRun, NoHistory, NoChain, NotEffective, OnesOnly, NoItem, NoReverse}
 use Rattle.book.proofs.Device.{device_proper}
 use Rattle.items.specs.Items.{Placed}
 use Rattle.items.proofs.Laws.{placed_items}
@@ -28,9 +32,9 @@ use Rattle.runs.proofs.Formed.{run_value}
 use Rattle.assembly.specs.Asked.{Asked}
 use Rattle.assembly.specs.declared.Assembly.{Assembly}
 use Rattle.chains.specs.declared.Counts.{Counts}
-use Rattle.points.specs.Believed.{Believed}
+use Rattle.points.specs.Believed.{Believed, BeliefsAs}
 use Rattle.points.specs.Items.{k_of, ItemsOf, recorded, WeightsOf}
-use Rattle.points.specs.Links.{links_of, Moving, Short, Numbered}
+use Rattle.points.specs.Links.{links_of, Moving, Short, Numbered, PointsAs}
 use Rattle.chains.specs.ChainFollowed.{Walked}
 use Rattle.assembly.specs.Lent.{in_bytes, Room, AllLent, room_sizes, all_sizes}
 use Rattle.assembly.specs.Small.{beside}
@@ -38,6 +42,24 @@ use Rattle.assembly.specs.Assembles.{refusal, result_of}
 use Rattle.assembly.specs.Contract.{answer_of, planned_by, plan_by, room_of, PlannedAs, AssembleAs, Lending}
 use Rattle.assembly.proofs.AnswerReached as reached
 use Rattle.assembly.proofs.AnswerReached.{Stored, counted, ChainFound}
+
+-- ---- no fault has code 0
+pub some_code : (fault : Fault) → code_of fault ≡ 0 → ⊥
+some_code ShortBuffer e = absurd (omega (arith, e))
+some_code CutOff e = absurd (omega (arith, e))
+some_code WrongKind e = absurd (omega (arith, e))
+some_code WrongLength e = absurd (omega (arith, e))
+some_code OutOfRange e = absurd (omega (arith, e))
+some_code NotRising e = absurd (omega (arith, e))
+some_code TooManyItems e = absurd (omega (arith, e))
+some_code NoReversePlan e = absurd (omega (arith, e))
+some_code WrongRun e = absurd (omega (arith, e))
+some_code NoHistory e = absurd (omega (arith, e))
+some_code NoChain e = absurd (omega (arith, e))
+some_code NotEffective e = absurd (omega (arith, e))
+some_code OnesOnly e = absurd (omega (arith, e))
+some_code NoItem e = absurd (omega (arith, e))
+some_code NoReverse e = absurd (omega (arith, e))
 
 -- ---- a short buffer
 pub short-refused : {ask : Asked} {l : AllLent ℕ} {r : Assembly} → Bytes ask.book → (LongEnough (all_sizes in_bytes l) → ⊥) → r ≡ refusal 1 0
@@ -139,6 +161,10 @@ pub record FineRun (ask : Asked) (d : Device) (W : List ℕ) (f : Checking) : Ty
   pub lends : Lending ask.book d W f
   pub fine : run_faulty f.n f.m ask.run ≡ false
 
+pub fine_run : {ask : Asked} {d : Device} {W : List ℕ} {f : Checking} → Bytes ask.run → Lending ask.book d W f
+    → not (run_faulty f.n f.m ask.run) ≡ true → FineRun ask d W f
+fine_run bytes lends e = record { bytes_of_run = bytes; lends = lends; fine = not-true _ e }
+
 module _ {ask : Asked} {d : Device} {W : List ℕ} {f : Checking} (w : FineRun ask d W f) where
   abbrev h : CheckingOf ask.book f
   h = w.lends.checked
@@ -169,6 +195,13 @@ module _ {ask : Asked} {d : Device} {W : List ℕ} {f : Checking} (w : FineRun a
   pub low : last_of ask.run ≤ 32
   low = omega (arith, last-is ask.run, run_ok.short)
 
+  -- the passes, within the limits of devices and runs
+  pub believing : {zeros sets : List ℕ} → BeliefsAs d ask.run zeros sets → 33 ≤ length zeros → Believed d (run_of ask.run) sets
+  believing c long =
+      let e = w.lends.device B given.accepted in
+      let ok = given.accepted.allowed.device in
+      c.believed (omega (arith, ap (λ (v : Device). v.n) e, ok.n_high)) (omega (arith, ap (λ (v : Device). v.m) e, ok.m_high)) low long
+
   -- with the answer stored
   answered : {r : Assembly} {room room' : Room ℕ} → Stored (answer_of B ask) room r room' → PlannedAs in_bytes ask room r room'
   answered s = after_check h z w.bytes_of_run (picks.no _ _ _ _ fine s.result_is) (picks.no _ _ _ _ fine s.room_is)
@@ -189,6 +222,21 @@ pub record NumbersKnown (beliefs : List ℕ) (i : ℕ) (places fewest firsts : L
   pub last_point_lem : i ≡ last_of ask.run
   pub placed : Placed ask.book places
   pub num : Numbered (links_of (recorded ask.book places) W ask.run beliefs f.items) i fewest firsts
+
+pub numbers-known : {ask : Asked} {d : Device} {W : List ℕ} {f : Checking} {beliefs : List ℕ} {i : ℕ} {places fewest firsts : List ℕ} (w : FineRun ask d W f)
+    → Believed d (run_of ask.run) beliefs → (get_or beliefs 0 0 ≡ 0 → ⊥) → i ≡ last_of ask.run → Placed ask.book places
+    → PointsAs (recorded ask.book places) W ask.run beliefs f.items i fewest firsts → NumbersKnown beliefs i places fewest firsts ask d W f
+numbers-known w believed some e placed p =
+    let c = w.lends.checked in
+    let z = w.lends.accepted in
+    record {
+      fine-run = w;
+      believed = believed;
+      some = some;
+      last_point_lem = e;
+      placed = placed;
+      num = p.numbered (limits c z).2 (omega (arith, low w, e)) (movable c z placed) (short c z placed);
+    }
 
 module _ {beliefs : List ℕ} {i : ℕ} {places fewest firsts : List ℕ} {ask : Asked} {d : Device} {W : List ℕ} {f : Checking}
     (k : NumbersKnown beliefs i places fewest firsts ask d W f) where

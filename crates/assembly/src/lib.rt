@@ -1,18 +1,21 @@
 // Assembling a roll-back plan for a run from the items of a book.
 #![tactic(auto)]
 
-ghost use Rattle.std.specs.Prelude.{◌≡◌};
+ghost use Rattle.std.specs.Prelude.{◌≡◌, Ok};
+ghost use Rattle.book.specs.Faults.{code_of};
 ghost use Rattle.book.specs.Lent.{lent};
-ghost use Rattle.states.specs.StateSets.{device_in};
+ghost use Rattle.checker.specs.Contract.{checking_by};
 ghost use Rattle.assembly.specs.Asked.{asked};
 ghost use Rattle.assembly.specs.Lent.{in_bytes, lent_room, all_lent};
 ghost use Rattle.assembly.specs.Assembles.{refusal};
 ghost use Rattle.assembly.specs.Contract.{AssembleAs, Lending, PlannedAs, SmallAs};
 
+use book::{Fault, FaultAt};
 use chains::write_chain;
-use checker::Checking;
+use checker::Counts;
 use points::beliefs::beliefs;
 use points::points_of;
+use states::{Moved, Outcomes, Tabled};
 
 // The bytes of a lent plan, and of lent legs; the masks of a lent scratch.
 pub const PLAN_LEN: usize = 256;
@@ -20,6 +23,9 @@ pub const PLAN_LEN: usize = 256;
 pub const LEGS_LEN: usize = 96;
 
 pub const SCRATCH_LEN: usize = 64;
+
+// The number of a point that has no chain.
+const NONE: u32 = 4294967295;
 
 // What assembling answers: the code and its place; the numbers of commands and legs and the sum of the commands' weights, each 0 on a refusal; the
 // least sum for each of the 33 points, 4,294,967,295 where there is no chain.
@@ -44,46 +50,50 @@ pub fn refused(code: u64, place: u64) -> Assembly
         commands: 0,
         legs: 0,
         sum: 0,
-        fewest: [4294967295u32; 33],
+        fewest: [NONE; 33],
     }
 }
 
-// Assembles with a book that was accepted: the outcomes are read in a table or in the book's moves, as `tabled` says, and the items in their records.
+// The answer to a fault.
+impl From<FaultAt> for Assembly {
+    ghost from_gives = { λ at r. r ≡ refusal (code_of at.fault) at.place };
+
+    fn from(at: FaultAt) -> Assembly {
+        refused(at.fault.into(), at.place)
+    }
+}
+
+// Assembles with a book that was accepted: the outcomes are looked up in a device, the items in their records.
 #[inline(always)]
-fn planned(
+fn planned<D: Outcomes>(
     book: &[u8],
     run: &[u8],
-    masks: &[u64],
-    tabled: bool,
+    device: &D,
     weights: &[u16],
-    found: Checking,
+    found: Counts,
     plan: &mut [u8],
     legs: &mut [u8],
 ) -> Assembly
-    requires { Lending book.now (device_in tabled book.now masks.now found.n found.m) weights.now found }
+    requires { Lending book.now (D.device device.now) weights.now (checking_by (Ok found)) }
     ensures { PlannedAs in_bytes (asked book.now run.now) (lent_room plan.old legs.old) result
         (lent_room plan.new legs.new) }
 {
     if !runs::run_fine(run, found.n, found.m) {
-        return refused(9, 0);
+        return Fault::WrongRun.at(0).into();
     }
     let mut sets = [0u64; 33];
-    beliefs(run, book, masks, tabled, found.n, found.m, &mut sets);
+    beliefs(run, device, &mut sets);
     if sets[0] == 0 {
-        return refused(10, 0);
+        return Fault::NoHistory.at(0).into();
     }
     let i = runs::last_point(run);
     let places = items::places(book);
     let points = points_of(book, &places, weights, found.items, run, &sets, i);
     let sum = points.fewest[i as usize];
-    if sum == 4294967295 {
+    if sum == NONE {
         return Assembly {
-            code: 11,
-            place: 0,
-            commands: 0,
-            legs: 0,
-            sum: 0,
             fewest: points.fewest,
+            ..Fault::NoChain.at(0).into()
         };
     }
     let counts = write_chain(book, &places, &points.items, i, plan, legs);
@@ -92,7 +102,7 @@ fn planned(
         place: 0,
         commands: counts.commands,
         legs: counts.legs,
-        sum: sum as u64,
+        sum: u64::from(sum),
         fewest: points.fewest,
     }
 }
@@ -111,17 +121,20 @@ pub fn assemble(
         (all_lent (lent table.old slots.old weights.old) plan.old legs.old) result
         (all_lent (lent table.new slots.new weights.new) plan.new legs.new) }
 {
-    if plan.len() < PLAN_LEN {
-        return refused(1, 0);
+    if plan.len() < PLAN_LEN || legs.len() < LEGS_LEN {
+        return Fault::ShortBuffer.at(0).into();
     }
-    if legs.len() < LEGS_LEN {
-        return refused(1, 0);
+    match checker::check_into(book, table, slots, weights) {
+        Ok(found) => {
+            let device = Tabled {
+                table,
+                n: found.n,
+                m: found.m,
+            };
+            planned(book, run, &device, weights, found, plan, legs)
+        }
+        Err(rejected) => rejected.at.into(),
     }
-    let found = checker::check(book, table, slots, weights);
-    if found.code != 0 {
-        return refused(found.code, found.place);
-    }
-    planned(book, run, table, true, weights, found, plan, legs)
 }
 
 // The same with a scratch of at least 64 masks in place of table, slots and weights: it holds the index of the book's moves. No local array has over 64
@@ -136,20 +149,21 @@ pub fn assemble_small(
     ensures { SmallAs (asked book.now run.now) scratch.old (lent_room plan.old legs.old) result
         scratch.new (lent_room plan.new legs.new) }
 {
-    if plan.len() < PLAN_LEN {
-        return refused(1, 0);
+    if plan.len() < PLAN_LEN || legs.len() < LEGS_LEN || scratch.len() < SCRATCH_LEN {
+        return Fault::ShortBuffer.at(0).into();
     }
-    if legs.len() < LEGS_LEN {
-        return refused(1, 0);
+    match checker::check_in_scratch(book, scratch) {
+        Ok(found) => {
+            let mut weights = [0u16; book::WEIGHTS_LEN];
+            reader::fill_weights(book, &mut weights);
+            let device = Moved {
+                book,
+                index: scratch,
+                n: found.n,
+                m: found.m,
+            };
+            planned(book, run, &device, &weights, found, plan, legs)
+        }
+        Err(rejected) => rejected.at.into(),
     }
-    if scratch.len() < SCRATCH_LEN {
-        return refused(1, 0);
-    }
-    let found = checker::check_small(book, scratch);
-    if found.code != 0 {
-        return refused(found.code, found.place);
-    }
-    let mut weights = [0u16; book::WEIGHTS_LEN];
-    reader::fill_weights(book, &mut weights);
-    planned(book, run, scratch, false, &weights, found, plan, legs)
 }

@@ -10,7 +10,7 @@ ghost use Rattle.octets.specs.Parts.{le_at, whole_at, piece};
 use std::ops::Range;
 
 // The element at i as a number, or 0 past the end.
-pub fn number_at<T: Copy + Into<u64>>(s: &[T], i: usize) -> u64
+fn number_at<T: Copy + Into<u64>>(s: &[T], i: usize) -> u64
     ensures { MatchOption (slice_get s.now i) (result ≡ 0) (λ x. T.converts x result) }
 {
     match s.get(i) {
@@ -20,7 +20,6 @@ pub fn number_at<T: Copy + Into<u64>>(s: &[T], i: usize) -> u64
 }
 
 // The byte at i, or 0 past the end.
-#[tactic(auto, using(crate::proofs::Elements::found_or_zero))]
 pub fn byte_at(s: &[u8], i: usize) -> u64
     ensures value { result ≡ get_or s.now i 0 }
     ensures upper_bound { result < 256 }
@@ -29,10 +28,16 @@ pub fn byte_at(s: &[u8], i: usize) -> u64
 }
 
 // The 16-bit number at i, or 0 past the end.
-#[tactic(auto, using(crate::proofs::Elements::found_or_zero))]
 pub fn word_at(s: &[u16], i: usize) -> u64
     ensures value { result ≡ get_or s.now i 0 }
     ensures upper_bound { result < 65536 }
+{
+    number_at(s, i)
+}
+
+// The 64-bit number at i, or 0 past the end.
+pub fn entry_at(s: &[u64], i: usize) -> u64
+    ensures { result ≡ get_or s.now i 0 }
 {
     number_at(s, i)
 }

@@ -42,12 +42,22 @@ pub fn entry_at(s: &[u64], i: usize) -> u64
     number_at(s, i)
 }
 
+// The N bytes from `at` on, if they are all there.
+fn chunk_at<const N: usize>(s: &[u8], at: usize) -> Option<&[u8; N]>
+    ensures { MatchOption result (length s.now < at + N) (λ b. (at + N ≤ length s.now) × (b.now ≡ piece N s.now at)) }
+{
+    s.get(at..)?.first_chunk()
+}
+
 // The N bytes from `at` on, 0 past the end.
 fn bytes_at<const N: usize>(s: &[u8], at: usize) -> [u8; N]
     ensures { result ≡ piece N s.now at }
 {
+    if let Some(bytes) = chunk_at(s, at) {
+        return *bytes;
+    }
     let mut bytes = [0; N];
-    copy(N, s, at, &mut bytes, 0);
+    copy_part(N, s, at, &mut bytes, 0);
     bytes
 }
 
@@ -78,14 +88,34 @@ pub fn has_room(len: usize, at: usize, n: usize) -> bool
 pub fn whole_at(s: &[u8], at: usize) -> u64
     ensures { result ≡ whole_at s.now at }
 {
-    if has_room(s.len(), at, 8) { u64_at(s, at) } else { 0 }
+    let Some(bytes) = chunk_at(s, at) else {
+        return 0;
+    };
+    u64::from_le_bytes(*bytes)
 }
 
-// Stores the n lowest bytes of v, lowest first, from `at` on.
+// Stores the lowest bytes of v, lowest first, in all of d.
+fn put_all(v: u64, d: &mut [u8])
+    ensures { d.new ≡ bytes_le (length d.old) v }
+{
+    let mut rest = v;
+    for b in d.iter_mut() {
+        *b = (rest % 256) as u8;
+        rest /= 256;
+    }
+}
+
+// Stores the n lowest bytes of v, lowest first, from `at` on, as far as there is room.
+#[tactic(auto, using(crate::proofs::Room::put_lent, crate::proofs::Room::put_room))]
 pub fn put_le(n: usize, v: u64, d: &mut [u8], at: usize)
     ensures { d.new ≡ sets d.old at (bytes_le n v) }
 {
-    copy(n, &v.to_le_bytes(), 0, d, at);
+    if has_room(d.len(), at, n) {
+        put_all(v, &mut d[at..at + n]);
+    } else {
+        let room = part(d.len(), at, n);
+        put_all(v, &mut d[room]);
+    }
 }
 
 // Where n elements from `at` on stand in a row of `len`, as far as there are any.

@@ -43,5 +43,7 @@ pub(crate) fn lowest_slot(n: u64, m: u64, c: usize, s: &[u8]) -> usize
     requires { c ≤ 64 }
     ensures { result ≡ lowest_slot n m c s.now }
 {
-    (0..c).find(|&i| !slots::fine(s, i as u8, n, m)).unwrap_or(c)
+    (0..c)
+        .find(|&i| !slots::fine(s, i as u8, n, m))
+        .unwrap_or(c)
 }

@@ -129,10 +129,7 @@ fn put_item(s: &[u8], a: u8, d: &mut [u8], at: usize) -> usize
 {
     let k = slots::k(s, a);
     let r = slots::r(s, a);
-    if 8 < k {
-        return at;
-    }
-    if 8 < r {
+    if 8 < k || 8 < r {
         return at;
     }
     let body = at + 6;

@@ -11,5 +11,5 @@ unfolding lowest_slot
 returns c =
     let test = slot_wrong c.args.n c.args.m c.args.s.now in
     let f = find_from_yields_List test _ _ c.find.result c.find.ensures.ran (YieldsList-from_range 0 c.args.c c.args.c (search rules) (omega arith))
-        (λ x b q k. search (rules, tests)) in
+    (λ x b q k. search (rules, tests)) in
     c.unwrap_or.ensures ∙ first_found test c.args.c c.find.result f

@@ -11,5 +11,5 @@ unfolding lowest_weight
 returns c =
     let test = weight_wrong c.args.w.now in
     let f = find_from_yields_List test _ _ c.find.result c.find.ensures.ran (YieldsList-from_range 0 c.args.k c.args.k (search rules) (omega arith))
-        (λ x b q k. search (rules, tests)) in
+    (λ x b q k. search (rules, tests)) in
     c.unwrap_or.ensures ∙ first_found test c.args.k c.find.result f

@@ -1,17 +1,21 @@
 -- What is stored in the part of a row that has room. Assumes nothing.
-use mathlib.Core.Path.{◌≡◌, sym, ap, ◌∙◌}
-use mathlib.Core.List.{List, [], ◌++◌, append_assoc, append-nil}
-use Prim.Native.Nat.{ℕ, ◌+◌, ◌-◌, ◌≤◌, ◌<◌}
+use mathlib.Core.Path.{◌≡◌, refl, sym, ap, ◌∙◌}
+use mathlib.Core.List.{List, [], ◌∷◌, ◌++◌, append_assoc, append-nil}
+use Prim.Native.Nat.{ℕ, zero, suc, ◌+◌, ◌-◌, ◌/◌, ◌%◌, ◌≤◌, ◌<◌}
 use native.Mathlib.Decide.{dec_lt}
 use native.Mathlib.Omega.{arith}
-use lib.ListN.{length, get_or, take, drop, replicate, get_or-eq_default, drop_of_length-le}
+use lib.ListN.{length, get_or, take, drop, replicate, length-drop, get_or-eq_default, drop_of_length-le}
 use lib.Seq.{sets, sets-eq, length-sets, drop-drop, length-take-le}
-use Rattle.std.specs.Prelude.{min}
+use denote.Ref.{Bor}
+use Rattle.std.specs.Prelude.{min, Option, None, Some, MatchOption}
+use Rattle.std.specs.Array.{IsFirstChunk}
 use Rattle.std.specs.List.{between}
 use Rattle.std.proofs.lemmas.List.{get_or-take, take-append-drop, take-replicate, length-replicate}
 use Rattle.std.proofs.lemmas.Grind.{same_number_lists}
 use Rattle.std.proofs.lemmas.List.Edits.{get_or-between, length-between}
+use Rattle.octets.specs.Le.{bytes_le}
 use Rattle.octets.specs.Parts.{piece}
+use Rattle.octets.proofs.Le.{length-bytes_le}
 use Rattle.octets.proofs.Put.{sets_past, sets_append, length-piece, piece-get, piece-take}
 
 -- a part that is lent and holds xs then, back in its row
@@ -90,3 +94,34 @@ module _ (d : List ℕ) (at n a e : ℕ) where
       each k (omega arith)
       ∙ (from-part s p f t k v w (omega arith)
       ∙ sym (get_or-take (e - a) (piece n s p) k 0 (omega arith) ∙ piece-get n s p k (omega arith)))))
+
+-- ---- the lowest bytes of a number
+take-bytes : (k n v : ℕ) → k ≤ n → take k (bytes_le n v) ≡ bytes_le k v
+unfolding bytes_le
+take-bytes zero n v h = refl
+take-bytes (suc k) zero v h = absurd (omega arith)
+take-bytes (suc k) (suc n) v h = ap (λ (t : List ℕ). v % 256 ∷ t) (take-bytes k n (v / 256) (omega arith))
+
+pub put_lent : (d : List ℕ) (at n v : ℕ) (part : List ℕ) → at + n ≤ length d → part ≡ bytes_le (length (take (at + n - at) (drop at d))) v
+    → take at d ++ (part ++ drop (at + n - at) (drop at d)) ≡ sets d at (bytes_le n v)
+put_lent d at n v part h is =
+    let k : at + n - at ≡ n = omega arith in
+    let l : length (take n (drop at d)) ≡ n = length-take-le n (drop at d) (omega (arith, length-drop at d)) in
+    let i : part ≡ bytes_le n v = rw (k, l) at is in
+    rw (k, i) (sets_lent d at n (bytes_le n v) h (length-bytes_le n v))
+
+pub put_room : (d : List ℕ) (at n v a e : ℕ) (part : List ℕ) → a ≡ min at (length d) → e ≡ min (at + n) (length d)
+    → part ≡ bytes_le (length (take (e - a) (drop a d))) v → take a d ++ (part ++ drop (e - a) (drop a d)) ≡ sets d at (bytes_le n v)
+put_room d at n v a e part p q is =
+    let l : length (take (e - a) (drop a d)) ≡ e - a = length-take-le (e - a) (drop a d) (omega (arith, length-drop a d)) in
+    let i : part ≡ bytes_le (e - a) v = rw l at is in
+    sets_room d at n a e (bytes_le n v) part (length-bytes_le n v) p q (i ∙ sym (take-bytes (e - a) n v (omega arith)))
+
+-- ---- the first bytes of what a row has from a place on
+pub chunk_of : (n : ℕ) (s rest : List ℕ) (at : ℕ) (r : Option (Bor (List ℕ))) → at ≤ length s → rest ≡ drop at s
+    → MatchOption r (length rest < n) (λ y. IsFirstChunk rest y.now n)
+    → MatchOption r (length s < at + n) (λ b. (at + n ≤ length s) × (b.now ≡ piece n s at))
+chunk_of n s rest at None h e m = omega (arith, ap length e, length-drop at s)
+chunk_of n s rest at (Some y) h e m =
+    let l : at + n ≤ length s = omega (arith, m.enough, ap length e, length-drop at s) in
+    (l, m.same ∙ (ap (take n) e ∙ sym (piece-take n s at l)))

@@ -10,7 +10,7 @@ ghost use Rattle.octets.specs.Parts.{le_at, whole_at, piece};
 use std::ops::Range;
 
 // The element at i as a number, or 0 past the end.
-pub fn number_at<T: Copy + Into<u64>>(s: &[T], i: usize) -> u64
+fn number_at<T: Copy + Into<u64>>(s: &[T], i: usize) -> u64
     ensures { MatchOption (slice_get s.now i) (result ≡ 0) (λ x. T.converts x result) }
 {
     match s.get(i) {
@@ -20,7 +20,6 @@ pub fn number_at<T: Copy + Into<u64>>(s: &[T], i: usize) -> u64
 }
 
 // The byte at i, or 0 past the end.
-#[tactic(auto, using(crate::proofs::Elements::found_or_zero))]
 pub fn byte_at(s: &[u8], i: usize) -> u64
     ensures value { result ≡ get_or s.now i 0 }
     ensures upper_bound { result < 256 }
@@ -29,7 +28,6 @@ pub fn byte_at(s: &[u8], i: usize) -> u64
 }
 
 // The 16-bit number at i, or 0 past the end.
-#[tactic(auto, using(crate::proofs::Elements::found_or_zero))]
 pub fn word_at(s: &[u16], i: usize) -> u64
     ensures value { result ≡ get_or s.now i 0 }
     ensures upper_bound { result < 65536 }
@@ -37,12 +35,29 @@ pub fn word_at(s: &[u16], i: usize) -> u64
     number_at(s, i)
 }
 
+// The 64-bit number at i, or 0 past the end.
+pub fn entry_at(s: &[u64], i: usize) -> u64
+    ensures { result ≡ get_or s.now i 0 }
+{
+    number_at(s, i)
+}
+
+// The N bytes from `at` on, if they are all there.
+fn chunk_at<const N: usize>(s: &[u8], at: usize) -> Option<&[u8; N]>
+    ensures { MatchOption result (length s.now < at + N) (λ b. (at + N ≤ length s.now) × (b.now ≡ piece N s.now at)) }
+{
+    s.get(at..)?.first_chunk()
+}
+
 // The N bytes from `at` on, 0 past the end.
 fn bytes_at<const N: usize>(s: &[u8], at: usize) -> [u8; N]
     ensures { result ≡ piece N s.now at }
 {
+    if let Some(bytes) = chunk_at(s, at) {
+        return *bytes;
+    }
     let mut bytes = [0; N];
-    copy(N, s, at, &mut bytes, 0);
+    copy_part(N, s, at, &mut bytes, 0);
     bytes
 }
 
@@ -73,14 +88,34 @@ pub fn has_room(len: usize, at: usize, n: usize) -> bool
 pub fn whole_at(s: &[u8], at: usize) -> u64
     ensures { result ≡ whole_at s.now at }
 {
-    if has_room(s.len(), at, 8) { u64_at(s, at) } else { 0 }
+    let Some(bytes) = chunk_at(s, at) else {
+        return 0;
+    };
+    u64::from_le_bytes(*bytes)
 }
 
-// Stores the n lowest bytes of v, lowest first, from `at` on.
+// Stores the lowest bytes of v, lowest first, in all of d.
+fn put_all(v: u64, d: &mut [u8])
+    ensures { d.new ≡ bytes_le (length d.old) v }
+{
+    let mut rest = v;
+    for b in d.iter_mut() {
+        *b = (rest % 256) as u8;
+        rest /= 256;
+    }
+}
+
+// Stores the n lowest bytes of v, lowest first, from `at` on, as far as there is room.
+#[tactic(auto, using(crate::proofs::Room::put_lent, crate::proofs::Room::put_room))]
 pub fn put_le(n: usize, v: u64, d: &mut [u8], at: usize)
     ensures { d.new ≡ sets d.old at (bytes_le n v) }
 {
-    copy(n, &v.to_le_bytes(), 0, d, at);
+    if has_room(d.len(), at, n) {
+        put_all(v, &mut d[at..at + n]);
+    } else {
+        let room = part(d.len(), at, n);
+        put_all(v, &mut d[room]);
+    }
 }
 
 // Where n elements from `at` on stand in a row of `len`, as far as there are any.

@@ -1,6 +1,6 @@
--- The search for the lowest wrong weight, entry or slot, and the weights that are left. Assumes nothing.
+-- The search for the lowest wrong weight, entry or slot, and the test that all weights are 1. Assumes nothing.
 use mathlib.Core.Path.{◌≡◌, refl, sym, ap, ◌∙◌}
-use mathlib.Core.Bool.{Bool, true, false, not}
+use mathlib.Core.Bool.{Bool, true, false, not, cond, ◌&&◌}
 use Prim.Native.Nat.{ℕ, zero, suc, ◌+◌, ◌-◌, ◌<◌, ◌≤◌}
 use native.Mathlib.Nat.{zero-add, add-zero}
 use native.Mathlib.Numerals.{add-one}
@@ -9,7 +9,13 @@ use native.Mathlib.Omega.{arith}
 use mathlib.Core.List.{List, [], ◌∷◌}
 use lib.ListN.{get_or}
 use lib.Bits.{bit_or}
-use Rattle.base.specs.Tests.{pick}
+use Rattle.std.specs.Prelude.{Option, None, Some}
+use Rattle.std.specs.Option.{unwrap_or, option_map}
+use Rattle.std.specs.List.{find, list_all, range_with_len}
+use Rattle.base.specs.Tests.{pick, both}
+use Rattle.base.specs.Compare.{same}
+use lib.Dec.{eqb}
+use Rattle.book.specs.Book.{all_one}
 use Rattle.base.specs.Masks.{clear_from}
 use Rattle.base.proofs.Tests.{T_true, true_t}
 use Rattle.base.proofs.Masks.{clear↔, in_or_l, in_or_r}
@@ -19,22 +25,24 @@ use Rattle.octets.specs.Parts.{piece}
 use Rattle.writer.specs.Lowest.{entry_wrong, lowest_entry}
 
 -- ---- the lowest number that passes a test
-module _ (f : ℕ → Bool) (k i : ℕ) (whole : ℕ) where
-  seek_turn : i < k → seek f i (k - i) ≡ pick (f i) i (seek f (i + 1) (k - (i + 1)))
-  unfolding seek
-  seek_turn h =
-      let e : k - i ≡ suc (k - (i + 1)) = omega arith in
-      rw (e, add-one i)
+found_first : (b : Bool) (i n m : ℕ) (o : Option ℕ) → unwrap_or o n ≡ m → unwrap_or (cond b (Some i) o) n ≡ pick b i m
+unfolding pick
+found_first true i n m o e = refl
+found_first false i n m o e = e
 
-  pub seek-again : seek f i (k - i) ≡ whole → i < k → f i ≡ false → seek f (i + 1) (k - (i + 1)) ≡ whole
-  seek-again w h e = P.no _ _ _ (f i) e refl ∙ (sym (seek_turn h) ∙ w)
+seek_found : (f : ℕ → Bool) (k i : ℕ) → unwrap_or (find f (range_with_len i k)) (i + k) ≡ seek f i k
+unfolding seek
+seek_found f zero i = add-zero i
+seek_found f (suc k) i =
+    let e : i + suc k ≡ i + 1 + k = omega arith in
+    found_first (f i) i (i + suc k) (seek f (suc i) k) (find f (range_with_len (i + 1) k)) (rw (e, ← add-one i) (seek_found f k (i + 1)))
 
-  pub seek_stop : seek f i (k - i) ≡ whole → i < k → f i ≡ true → i ≡ whole
-  seek_stop w h e = P.yes _ _ _ (f i) e refl ∙ (sym (seek_turn h) ∙ w)
+itself : (o : Option ℕ) → o ≡ option_map (λ x. x) o
+itself None = refl
+itself (Some x) = refl
 
-  pub seek_finish : seek f i (k - i) ≡ whole → k ≤ i → i ≡ whole
-  unfolding seek
-  seek_finish w h = let e : k - i ≡ 0 = omega arith in rw e at w
+pub first_found : (f : ℕ → Bool) (k : ℕ) (r : Option ℕ) → option_map (λ x. x) r ≡ find f (range_with_len 0 k) → unwrap_or r k ≡ seek f 0 k
+first_found f k r e = ap (λ o. unwrap_or o k) (itself r ∙ e) ∙ (rw (zero-add k) at (seek_found f k 0))
 
 -- none passes it
 seek-none : (f : ℕ → Bool) (k i : ℕ) → ((x : ℕ) → i ≤ x → x < i + k → f x ≡ false) → i + k ≡ seek f i k
@@ -62,21 +70,14 @@ union-again t i all h n j b e = go (dec_lt j i)
     go (yes l) = h n j l (clear_or n all (get_or t i 0) e).0
     go (no l) = let f : j ≡ i = omega arith in rw f (clear_or n all (get_or t i 0) e).1
 
--- ---- a test whose result the code turns round
-module _ (r t : Bool) where
-  pub turned_on : r ≡ t → not r ≡ true → not t ≡ true
-  turned_on e h = rw (← e) h
+-- ---- the first k weights, from p on
+both-is : (b x y : Bool) → x ≡ y → (b && x) ≡ both b y
+unfolding both
+both-is true x y e = e
+both-is false x y e = refl
 
-  pub turned_off : r ≡ t → not r ≡ false → not t ≡ false
-  turned_off e h = rw (← e) h
-
--- ---- the first k elements, from i on
-pub piece-here : (w : List ℕ) (k i : ℕ) → i < k → piece (k - i) w i ≡ get_or w i 0 ∷ piece (k - (i + 1)) w (i + 1)
-unfolding piece
-piece-here w k i h =
-    let e : k - i ≡ suc (k - (i + 1)) = omega arith in
-    rw (e, add-one i)
-
-pub piece-none : (w : List ℕ) (k i : ℕ) → k ≤ i → piece (k - i) w i ≡ []
-unfolding piece
-piece-none w k i h = let e : k - i ≡ 0 = omega arith in rw e
+pub ones_of : (w : List ℕ) (k p : ℕ) → list_all (λ i. eqb (get_or w i 0) 1) (range_with_len p k) ≡ all_one (piece k w p)
+unfolding piece all_one same
+ones_of w zero p = refl
+ones_of w (suc k) p =
+    both-is (eqb (get_or w p 0) 1) _ _ (ap (λ (q : ℕ). list_all (λ i. eqb (get_or w i 0) 1) (range_with_len q k)) (add-one p) ∙ ones_of w k (suc p))

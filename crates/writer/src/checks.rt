@@ -3,25 +3,13 @@ ghost use Rattle.std.specs.Prelude.{◌≡◌, true, ℕ, ◌≤◌, ◌<◌, le
 ghost use Rattle.base.specs.Masks.{clear_from};
 ghost use Rattle.writer.specs.Lowest.{lowest_weight, lowest_entry, lowest_slot};
 
-// The entry i of a table, or 0 past its end.
-pub(crate) fn entry_at(t: &[u64], i: usize) -> u64
-    ensures { result ≡ get_or t.now i 0 }
-{
-    if i < t.len() { t[i] } else { 0 }
-}
-
 // The lowest of the first k weights that no command may have; k where there is none.
 pub(crate) fn lowest_weight(k: usize, w: &[u16]) -> usize
     ensures { result ≡ lowest_weight k w.now }
 {
-    let mut i: usize = 0;
-    while i < k {
-        if !limits::weight_fine(octets::word_at(w, i)) {
-            return i;
-        }
-        i = i + 1;
-    }
-    i
+    (0..k)
+        .find(|&i| !limits::weight_fine(octets::word_at(w, i)))
+        .unwrap_or(k)
 }
 
 // All states of the first k entries.
@@ -30,8 +18,8 @@ fn union(k: usize, t: &[u64]) -> u64
     ensures { (n i : ℕ) → i < k → clear_from n result ≡ true → clear_from n (get_or t.now i 0) ≡ true }
 {
     let mut all: u64 = 0;
-    for i in 0..k {
-        all = all | t[i];
+    for states in &t[..k] {
+        all |= states;
     }
     all
 }
@@ -42,20 +30,12 @@ pub(crate) fn lowest_entry(n: u64, k: usize, t: &[u64]) -> usize
     requires { (k ≤ 2048) × (k ≤ length t.now) }
     ensures { result ≡ lowest_entry n k t.now }
 {
-    if 64 <= n {
+    if 64 <= n || limits::mask_fine(union(k, t), n) {
         return k;
     }
-    if limits::mask_fine(union(k, t), n) {
-        return k;
-    }
-    let mut i: usize = 0;
-    while i < k {
-        if !limits::mask_fine(entry_at(t, i), n) {
-            return i;
-        }
-        i = i + 1;
-    }
-    i
+    (0..k)
+        .find(|&i| !limits::mask_fine(octets::entry_at(t, i), n))
+        .unwrap_or(k)
 }
 
 // The lowest of the first c slots that is not fine; c where there is none.
@@ -63,12 +43,7 @@ pub(crate) fn lowest_slot(n: u64, m: u64, c: usize, s: &[u8]) -> usize
     requires { c ≤ 64 }
     ensures { result ≡ lowest_slot n m c s.now }
 {
-    let mut i: usize = 0;
-    while i < c {
-        if !slots::fine(s, i as u8, n, m) {
-            return i;
-        }
-        i = i + 1;
-    }
-    i
+    (0..c)
+        .find(|&i| !slots::fine(s, i as u8, n, m))
+        .unwrap_or(c)
 }

@@ -5,10 +5,12 @@ mod checks;
 mod records;
 
 ghost use Rattle.std.specs.Prelude.{◌≡◌};
+ghost use Rattle.book.specs.Faults.{code_of};
 ghost use Rattle.book.specs.Lent.{lent};
 ghost use Rattle.writer.specs.Writes.{refusal};
 ghost use Rattle.writer.specs.Contract.{WriteAs};
 
+use book::Fault;
 use checks::{lowest_entry, lowest_slot, lowest_weight};
 use records::put_book;
 
@@ -25,12 +27,12 @@ pub struct Writing {
 }
 
 // A refusal, whose length is 0.
-fn refused(code: u64, place: u64) -> Writing
-    ensures { result ≡ refusal code place }
+fn refused(fault: Fault, place: u64) -> Writing
+    ensures { result ≡ refusal (code_of fault) place }
 {
     Writing {
-        code: code,
-        place: place,
+        code: fault.into(),
+        place,
         length: 0,
     }
 }
@@ -49,37 +51,37 @@ pub fn write(
         out.new }
 {
     if table.len() < book::TABLE_LEN {
-        return refused(1, 0);
+        return refused(Fault::ShortBuffer, 0);
     }
     if slots.len() < book::SLOTS_LEN {
-        return refused(1, 0);
+        return refused(Fault::ShortBuffer, 0);
     }
     if weights.len() < book::WEIGHTS_LEN {
-        return refused(1, 0);
+        return refused(Fault::ShortBuffer, 0);
     }
     if out.len() < OUT_LEN {
-        return refused(1, 0);
+        return refused(Fault::ShortBuffer, 0);
     }
     if !limits::device_fine(n, m) {
-        return refused(5, 0);
+        return refused(Fault::OutOfRange, 0);
     }
     if 64 < items {
-        return refused(7, 0);
+        return refused(Fault::TooManyItems, 0);
     }
     let commands = m as usize;
     let command = lowest_weight(commands, weights);
     if command < commands {
-        return refused(5, command as u64);
+        return refused(Fault::OutOfRange, command as u64);
     }
     let cells = (n * m) as usize;
     let entry = lowest_entry(n, cells, table);
     if entry < cells {
-        return refused(5, entry as u64);
+        return refused(Fault::OutOfRange, entry as u64);
     }
     let count = items as usize;
     let slot = lowest_slot(n, m, count, slots);
     if slot < count {
-        return refused(5, slot as u64);
+        return refused(Fault::OutOfRange, slot as u64);
     }
     let length = put_book(n, m, count, table, slots, weights, out);
     Writing {

@@ -23,12 +23,7 @@ fn put_device(n: u64, m: u64, d: &mut [u8])
 fn all_one(k: usize, w: &[u16]) -> bool
     ensures { result ≡ all_one (piece k w.now 0) }
 {
-    for i in 0..k {
-        if octets::word_at(w, i) != 1 {
-            return false;
-        }
-    }
-    true
+    (0..k).all(|i| octets::word_at(w, i) == 1)
 }
 
 // The first k weights, two bytes each, from `at` on.
@@ -134,10 +129,7 @@ fn put_item(s: &[u8], a: u8, d: &mut [u8], at: usize) -> usize
 {
     let k = slots::k(s, a);
     let r = slots::r(s, a);
-    if 8 < k {
-        return at;
-    }
-    if 8 < r {
+    if 8 < k || 8 < r {
         return at;
     }
     let body = at + 6;

@@ -8,6 +8,6 @@ use Rattle.octets.proofs.bytes_at.Goals as goal
 
 pub returns : goal.returns
 returns g c =
-    c.copy.ensures
+    c.copy_part.ensures
     ∙ sets_all (replicate g.row.N 0) (piece g.row.N c.args.s.now c.args.at)
     (length-piece g.row.N c.args.s.now c.args.at ∙ sym (length-replicate g.row.N 0))

@@ -90,6 +90,7 @@ impl<'a> Iterator for ItemRecords<'a> {
 
     ghost remaining = { λ s. at_most (length s.book.now - s.at) };
 
+    #[inline(always)]
     fn next(&mut self) -> Option<(usize, Parts)> {
         let at = self.at;
         if self.book.len() <= at {
@@ -156,6 +157,7 @@ impl<'a> Iterator for MoveRecords<'a> {
 
     ghost remaining = { λ s. at_most (length s.book.now - s.at) };
 
+    #[inline(always)]
     fn next(&mut self) -> Option<usize> {
         let at = self.at;
         if self.book.len() - at < MOVE_LEN || kind_at(self.book, at) != MOVE_KIND {

@@ -102,8 +102,10 @@ impl<'a> Iterator for ItemRecords<'a> {
     }
 }
 
+// Those of a book from the record at a place on.
 pub fn records(book: &[u8], at: usize) -> ItemRecords
-    ensures { (result.book.now ≡ book.now) × (result.at ≡ at) }
+    ensures book { result.book.now ≡ book.now }
+    ensures begins { result.at ≡ at }
 {
     ItemRecords { book, at }
 }

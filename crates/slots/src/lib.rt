@@ -16,7 +16,8 @@ pub const SLOT_LEN: usize = 34;
 
 // Where slot a begins.
 fn start(a: u8) -> usize
-    ensures { (result ≡ 34 * a) × (result < 8705) }
+    ensures value { result ≡ 34 * a }
+    ensures upper_bound { result < 8705 }
 {
     SLOT_LEN * a as usize
 }
@@ -162,7 +163,6 @@ pub fn fill(book: &[u8], at: usize, slots: &mut [u8], a: u8) -> usize
         let rest = q.min(slots.len());
         return put(book, at, &mut slots[rest..]);
     }
-    // The length of a whole slot is known, so no store tests the room.
     put(book, at, &mut slots[q..q + SLOT_LEN])
 }
 

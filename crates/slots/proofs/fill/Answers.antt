@@ -7,4 +7,4 @@ pub returns-then-slots-q : goal.returns-then-slots-q
 returns-then-slots-q c = filled-in_rest c.put.ensures (omega arith) refl
 
 pub returns : goal.returns
-returns c = filled-whole c.put-2.ensures c.start-q.ensures.0 (omega arith) (omega arith)
+returns c = filled-whole c.put-2.ensures c.start-q.ensures.value (omega arith) (omega arith)

@@ -90,6 +90,7 @@ impl<'a> Iterator for ItemRecords<'a> {
 
     ghost remaining = { λ s. at_most (length s.book.now - s.at) };
 
+    #[inline(always)]
     fn next(&mut self) -> Option<(usize, Parts)> {
         let at = self.at;
         if self.book.len() <= at {
@@ -101,8 +102,10 @@ impl<'a> Iterator for ItemRecords<'a> {
     }
 }
 
+// Those of a book from the record at a place on.
 pub fn records(book: &[u8], at: usize) -> ItemRecords
-    ensures { (result.book.now ≡ book.now) × (result.at ≡ at) }
+    ensures book { result.book.now ≡ book.now }
+    ensures begins { result.at ≡ at }
 {
     ItemRecords { book, at }
 }
@@ -156,6 +159,7 @@ impl<'a> Iterator for MoveRecords<'a> {
 
     ghost remaining = { λ s. at_most (length s.book.now - s.at) };
 
+    #[inline(always)]
     fn next(&mut self) -> Option<usize> {
         let at = self.at;
         if self.book.len() - at < MOVE_LEN || kind_at(self.book, at) != MOVE_KIND {

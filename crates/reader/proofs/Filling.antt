@@ -1,16 +1,17 @@
 -- What is stored is the book's table, slots and weights: what is left of its moves, items and weights gives the whole. Assumes nothing.
 use mathlib.Core.Path.{◌≡◌, refl, sym, ap, ap₂, ◌∙◌}
 use mathlib.Core.List.{List, [], ◌∷◌, ◌++◌, map, append-nil}
-use Rattle.std.specs.Prelude.{Ok as On, Err}
-use Prim.Native.Nat.{ℕ, ◌+◌, ◌*◌, ◌≤◌, ◌<◌}
+use Prim.Native.Nat.{ℕ, min, ◌+◌, ◌*◌, ◌≤◌, ◌<◌}
+use native.Mathlib.Decide.{dec_lt}
 use native.Mathlib.Numerals.{add-one}
 use native.Mathlib.Omega.{arith}
-use lib.ListN.{length, get_or, set, take, drop, drop_of_length-le}
-use lib.Seq.{sets, length-sets, drop-cons}
+use lib.ListN.{length, get_or, set, drop, drop_of_length-le}
+use lib.Seq.{sets, drop-cons}
+use Rattle.std.specs.Prelude.{Some, None, Ok as On, Err}
 use Rattle.base.specs.Lists.{Each}
 use Rattle.octets.specs.Le.{bytes_le}
 use Rattle.octets.specs.Parts.{le_at}
-use Rattle.octets.proofs.Put.{sets_past, sets_append, sets_part}
+use Rattle.octets.proofs.Put.{sets_past, sets_append}
 use Rattle.reversal.specs.Reversal.{Item}
 use Rattle.reversal.specs.Chains.{absent, item}
 use Rattle.book.specs.declared.State.{State}
@@ -27,9 +28,11 @@ use Rattle.book.proofs.Cut.{onto}
 use Rattle.book.proofs.Scanning.{cut-book, state_of}
 use Rattle.book.proofs.Reading.{scan_whole, parse-fine}
 use Rattle.book.proofs.Slots.{length-slot}
-use Rattle.items.specs.Items.{MovesBegin, Begins, ItemStands}
+use Rattle.items.specs.declared.Parts.{Parts}
+use Rattle.items.specs.Items.{MovesBegin, Begins, ItemStands, ItemComes, MoveComes}
+use Rattle.slots.specs.Filled.{SlotFilled}
 use Rattle.items.proofs.Laws.{allowed}
-use Rattle.items.proofs.Walk.{past-move, state_at, command_at_lem, mask_at_lem, move-inside, no_move, none_left, one_more, all_passed}
+use Rattle.items.proofs.Walk.{past-move, state_at, command_at_lem, mask_at_lem, no_move, none_left, one_more, all_passed}
 use Rattle.reader.specs.Reads.{done}
 use Rattle.reader.specs.Filling.{move_stored, TableFilled}
 
@@ -78,16 +81,14 @@ module _ {s : List ℕ} {b : Book} {whole : List ℕ} {at : ℕ} {table : List �
 abbrev pub AllEntered : List ℕ → Book → List ℕ → ℕ → List ℕ → Type 0
 AllEntered s b whole at table = (g : Entering s b whole at table) × (g.left ≡ [])
 
-module _ {s : List ℕ} {b : Book} {whole : List ℕ} {at : ℕ} {table : List ℕ} (g : Entering s b whole at table) where
-  pub other_stands : (le_at 2 s (at + 2) ≡ 2 → ⊥) → AllEntered s b whole at table
-  other_stands k = (g, none_left g.left (items_of b) s at g.rest k)
+-- the walk of `MoveRecords`
+module _ {s u u' : List ℕ} {b : Book} {whole : List ℕ} {at at' : ℕ} {table : List ℕ} (same : u ≡ s) (g : Entering s b whole at table) where
+  pub move-entered : {x : ℕ} → AllowedBook b → MoveComes u at (Some x) u' at' → (m : ℕ) (table' : List ℕ) → m ≡ b.m
+      → table' ≡ move_stored m s x table → Entering s b whole at' table'
+  move-entered a c m table' h e = rw c.1.3 (entered a g m table' h (rw same at c.1.2) (rw c.1.0 at e))
 
-  pub too_few : length s < at + 14 → AllEntered s b whole at table
-  too_few h = (g, go g.left g.rest)
-    where
-      go : (left : List Move) → drop at s ≡ framed (map move_rec left ++ map item_rec (items_of b)) → left ≡ []
-      go [] r = refl
-      go (x ∷ xs) r = absurd (omega (arith, move-inside s at x (framed (map move_rec xs ++ map item_rec (items_of b))) r))
+  pub all-entered : MoveComes u at None u' at' → AllEntered s b whole at' table
+  all-entered c = rw c.1.1 (g, none_left g.left (items_of b) s at g.rest (rw same at c.1.0))
 
 pub table_filled : (s old table₀ table : List ℕ) (n m at : ℕ) → n ≡ get_or s 4 0 → m ≡ get_or s 5 0 → table₀ ≡ zeroed (n * m) old
     → ((b : Book) → AllowedBook b → bytes_of b ≡ s → AllEntered s b (filled b.m b.moves table₀) at table) → TableFilled s old table at
@@ -129,26 +130,26 @@ module _ {s : List ℕ} {b : Book} {whole : List ℕ} {at i : ℕ} {slots : List
             ∙ g.gives;
       }
 
-  -- in a slot that is lent by itself
-  pub part_slotted : (h : at < length s) (k : ℕ) (part : List ℕ) → k ≡ 34 → 34 * i + k ≤ length slots
-      → part ≡ sets (take k (drop (34 * i) slots)) 0 (slot_of (item (items_for b) i))
-      → take (34 * i) slots ++ (part ++ drop k (drop (34 * i) slots)) ≡ sets slots (34 * i) (slot_of (item (items_for b) i))
-  part_slotted h k part n l p =
-      sets_part slots part (34 * i) k (slot_of (item (items_for b) i)) l (omega (arith, length-slot (device_of b) (item (items_for b) i) (allowed (stands h)))) p
-
-  -- in a slot that is not there whole: no later one is there
-  pub last_slotted : (h : at < length s) (next : ℕ) → Begins s b (i + 1) next → (slots' : List ℕ) → slots' ≡ sets slots (34 * i) (slot_of (item (items_for b) i))
-      → length slots < 34 * i + 34 → slots' ≡ whole
-  last_slotted h next q slots' e l =
-      let n = length-sets slots (34 * i) (slot_of (item (items_for b) i)) in
-      sym (sets_past slots' (34 * (i + 1)) (slots_bytes (drop (i + 1) (items_for b))) (omega (arith, ap length e, n))) ∙ (slotted h next q slots' e).gives
-
-  pub all_slotted : length s ≤ at → slots ≡ whole
+  pub no_more : length (items_for b) ≤ i → slots ≡ whole
   unfolding slots_bytes
-  all_slotted h =
-      let past : length (items_for b) ≤ i = omega (arith, all_passed a e g.known g.here h) in
-      let none : drop i (items_for b) ≡ [] = drop_of_length-le (items_for b) past in
-      rw none at g.gives
+  no_more past = let none : drop i (items_for b) ≡ [] = drop_of_length-le (items_for b) past in rw none at g.gives
+
+  -- the walk of `ItemRecords`, of which n more records are taken
+  module _ {u u' : List ℕ} {at' : ℕ} (same : u ≡ s) where
+    pub item-slotted : {p r : ℕ} {x : Parts} {slots' : List ℕ} → ItemComes u at (Some (p, x)) u' at' → SlotFilled s p slots i slots' r
+        → Slotting s b whole at' (i + 1) slots'
+    item-slotted {slots' = slots'} c o =
+        let h = rw same at c.1.0 in
+        let parts = rw same at c.1.2 in
+        let filled-here = rw c.1.1 at o in
+        rw c.1.3 (slotted h _ (parts.next (stands h)) slots' (filled-here.slot (stands h)))
+
+    pub all-slotted : (n : ℕ) → i + n ≡ 64 → (0 < n → ItemComes u at None u' at') → slots ≡ whole
+    all-slotted n c f = go (dec_lt 0 n)
+      where
+        go : Dec (0 < n) → slots ≡ whole
+        go (yes l) = no_more (omega (arith, all_passed a e g.known g.here (rw same at (f l).1.0)))
+        go (no l) = no_more (omega (arith, a.few))
 
 -- ---- the pass over the weights
 pub record Weighing (b : Book) (whole : List ℕ) (command : ℕ) (weights : List ℕ) : Type 0 where
@@ -167,11 +168,19 @@ module _ {b : Book} {whole : List ℕ} {command : ℕ} {weights : List ℕ} (a :
             (ap (λ (l : List ℕ). sets weights command l) (sym (drop-cons b.weights command 0 (omega (arith, a.weighed.count)))) ∙ g.gives);
       }
 
-  pub all-weighed : b.m ≤ command → weights ≡ whole
-  all-weighed h =
+  each_weighed : b.m ≤ command → weights ≡ whole
+  each_weighed h =
       let past : length b.weights ≤ command = omega (arith, a.weighed.count) in
       let none : drop command b.weights ≡ [] = drop_of_length-le b.weights past in
       rw none at g.gives
+
+  -- past the last weight, or past those that are lent
+  pub all-weighed : command ≡ min b.m (length weights) → weights ≡ whole
+  all-weighed h = go (dec_lt command b.m)
+    where
+      go : Dec (command < b.m) → weights ≡ whole
+      go (yes l) = sym (sets_past weights command (drop command b.weights) (omega arith)) ∙ g.gives
+      go (no l) = each_weighed (omega arith)
 
 -- ---- a book that is read
 pub record Found (s : List ℕ) (st : State) : Type 0 where

@@ -105,39 +105,19 @@ pub fn fill_table(book: &[u8], table: &mut [u64]) -> usize
     let n = octets::byte_at(book, 4);
     let m = octets::byte_at(book, 5);
     moves::clear(table, (n * m) as usize);
-    let mut at = items::first_move(book);
-    if book.len() < at {
-        return at;
-    }
-    while 14 <= book.len() - at {
-        if octets::u16_at(book, at + 2) != 2 {
-            return at;
-        }
+    let mut moves = items::move_records(book);
+    while let Some(at) = moves.next() {
         fill::put_move(book, at, m, table);
-        at = at + 14;
     }
-    at
+    moves.at
 }
 
 // Fills the slots from the bytes of an allowed book whose first item is at a place.
 pub fn fill_slots(book: &[u8], first: usize, slots: &mut [u8])
     ensures { SlotsFilled book.now first slots.old slots.new }
 {
-    let mut at = first;
-    let mut i: usize = 0;
-    while at < book.len() {
-        if 64 <= i {
-            return;
-        }
-        let q = slots::SLOT_LEN * i;
-        let end = q + slots::SLOT_LEN;
-        // Where this slot is not there whole, no later one is there.
-        if slots.len() < end {
-            slots::fill(book, at, slots, i as u8);
-            return;
-        }
-        at = slots::put(book, at, &mut slots[q..end]);
-        i = i + 1;
+    for (i, (at, _)) in items::records(book, first).take(64).enumerate() {
+        slots::fill(book, at, slots, i as u8);
     }
 }
 
@@ -146,14 +126,8 @@ pub fn fill_weights(book: &[u8], weights: &mut [u16])
     ensures { WeightsFilled book.now weights.old weights.new }
 {
     let m = octets::byte_at(book, 5) as usize;
-    let mut command: usize = 0;
-    while command < m {
-        fill::store_weight(
-            weights,
-            command,
-            items::weight_at(book, command as u8) as u16,
-        );
-        command = command + 1;
+    for command in 0..m.min(weights.len()) {
+        weights[command] = items::weight_at(book, command as u8) as u16;
     }
 }
 

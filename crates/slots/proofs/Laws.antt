@@ -13,11 +13,11 @@ use Rattle.reversal.specs.Chains.{item}
 use Rattle.octets.specs.Le.{bytes_le}
 use Rattle.octets.specs.Parts.{piece, le_at}
 use Rattle.octets.proofs.Le.{length-bytes_le}
-use Rattle.octets.proofs.Put.{sets_past, first, then, length-piece, piece-get, Wrote, over, piece_split, bytes-piece}
-use Rattle.book.specs.Book.{Book, items_of}
+use Rattle.octets.proofs.Put.{sets_past, sets_part, first, then, length-piece, piece-get, Wrote, over, piece_split, bytes-piece}
+use Rattle.book.specs.Book.{Book, device_of, items_of}
 use Rattle.book.specs.Lent.{padded, slot_of}
 use Rattle.book.specs.Slots.{item_at}
-use Rattle.book.proofs.Slots.{length-padded}
+use Rattle.book.proofs.Slots.{length-padded, length-slot}
 use Rattle.items.specs.declared.Parts.{Parts}
 use Rattle.items.specs.Items.{held_in, ItemStands, PartsAt}
 use Rattle.items.proofs.Laws.{allowed, item_is, k-held, r_held}
@@ -183,5 +183,18 @@ filled-in_rest {slots = slots} {rest = rest} {a = a} {i = i} {k = k} o m n =
     record {
       past = o.past;
       slot = λ {b} {i = j} h. stored-in_rest slots rest (34 * a) i k (slot_of (item (items_of b) j)) m n (o.slot h);
+      next = o.next;
+    }
+
+-- ---- and in a part of the row that is the whole slot
+pub filled-whole : {s slots part : List ℕ} {at a r i k : ℕ} → SlotFilled s at (take k (drop i slots)) 0 part r → i ≡ 34 * a → k ≡ 34
+    → i + k ≤ length slots → SlotFilled s at slots a (take i slots ++ (part ++ drop k (drop i slots))) r
+filled-whole {slots = slots} {part = part} {i = i} {k = k} o e n room =
+    record {
+      past = o.past;
+      slot = λ {b} {i = j} h.
+          let x = item (items_of b) j in
+          sets_part slots part i k (slot_of x) room (omega (arith, length-slot (device_of b) x (allowed h))) (o.slot h)
+          ∙ ap (λ (p : ℕ). sets slots p (slot_of x)) e;
       next = o.next;
     }

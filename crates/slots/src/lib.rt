@@ -16,7 +16,8 @@ pub const SLOT_LEN: usize = 34;
 
 // Where slot a begins.
 fn start(a: u8) -> usize
-    ensures { (result ≡ 34 * a) × (result < 8705) }
+    ensures value { result ≡ 34 * a }
+    ensures upper_bound { result < 8705 }
 {
     SLOT_LEN * a as usize
 }
@@ -157,11 +158,16 @@ fn commands_at(book: &[u8], p: usize, count: usize) -> u64
 pub fn fill(book: &[u8], at: usize, slots: &mut [u8], a: u8) -> usize
     ensures { SlotFilled book.now at slots.old a slots.new result }
 {
-    let q = start(a).min(slots.len());
-    put(book, at, &mut slots[q..])
+    let q = start(a);
+    if slots.len() < q + SLOT_LEN {
+        let rest = q.min(slots.len());
+        return put(book, at, &mut slots[rest..]);
+    }
+    put(book, at, &mut slots[q..q + SLOT_LEN])
 }
 
-// The same for a slot by itself, of 34 bytes or as many as are there.
+// The same for a slot by itself, of 34 bytes or as many as are there. Inlined, so that no store into a whole slot tests the room.
+#[inline(always)]
 pub fn put(book: &[u8], at: usize, slot: &mut [u8]) -> usize
     ensures { SlotFilled book.now at slot.old 0 slot.new result }
 {

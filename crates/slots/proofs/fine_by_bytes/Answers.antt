@@ -10,14 +10,14 @@ returns-then-slots-q c = too_short c.args.n c.args.m c.args.slots.now c.args.a (
 pub returns-then-not-counts_fine : goal.returns-then-not-counts_fine
 returns-then-not-counts_fine c =
     let a = c.args in
-    let e = c.start-q.ensures.0 in
+    let e = c.start-q.ensures.value in
     counts_wrong a.n a.m a.slots.now a.a (omega arith) _ _ (rw e at c.byte_at-k.ensures.value) (rw e at c.byte_at-r.ensures.value) _
     c.counts_fine.ensures (ap not c.if-not-counts_fine.true)
 
 pub returns-then-not-fields_fine : goal.returns-then-not-fields_fine
 returns-then-not-fields_fine c =
     let a = c.args in
-    let e = c.start-q.ensures.0 in
+    let e = c.start-q.ensures.value in
     let k = rw e at c.byte_at-k.ensures.value in
     let r = rw e at c.byte_at-r.ensures.value in
     let phi = rw e at c.u64_at-phi.ensures in
@@ -35,7 +35,7 @@ returns-then-not-fields_fine c =
 pub returns : goal.returns
 returns c =
     let a = c.args in
-    let e = c.start-q.ensures.0 in
+    let e = c.start-q.ensures.value in
     unused_decides a.n a.m a.slots.now a.a (omega arith) _ _ (rw e at c.byte_at-k.ensures.value) (rw e at c.byte_at-r.ensures.value) _
     c.counts_fine.ensures (ap not c.if-not-counts_fine.false) _ _ (rw e at c.u64_at-phi.ensures) (rw e at c.u64_at-psi.ensures) _
     (rw e at c.fields_fine.ensures) (ap not c.if-not-fields_fine.false) _ (rw e at c.all_below.ensures) (ap not c.if-not-all_below.false) _

@@ -6,7 +6,7 @@ use Rattle.slots.proofs.fine_by_words.Goals as goal
 pub returns : goal.returns
 returns c = λ fine.
     let a = c.args in
-    let e = c.start-q.ensures.0 in
+    let e = c.start-q.ensures.value in
     words_fine a.n a.m a.slots.now a.a (omega arith) c.byte_at-k.result c.byte_at-r.result _ _ _ _ _
     (rw e at c.byte_at-k.ensures.value) (rw e at c.byte_at-r.ensures.value) (sym c.counts_fine.ensures ∙ c.if-not-counts_fine.false)
     (rw e at c.largest.ensures) (omega arith)

@@ -58,12 +58,6 @@ looked {d} {f} works s k r e =
       inside = λ a b. (f s k, works s k a b, e ∙ sym (mask-found d.n d.m s k (f s k) a b));
     }
 
--- and so is the answer that reads the rule's table
-pub table_looked : {d : DeviceRule} {not-empty : ℕ} {table : List ℕ} → EqualsRule d not-empty table → (s k : ℕ) (r : LookupResult)
-    → r ≡ answer_of d.n d.m s k (cell d.m table s k) → Looked d s k r
-unfolding cell
-table_looked e s k r q = looked e.masks s k r q
-
 -- no other result is the one that 01 words
 pub looked_unique : (d : DeviceRule) (s k : ℕ) (r q : LookupResult) → Looked d s k r → Looked d s k q → r ≡ q
 looked_unique d s k r q a b = go (dec_lt s d.n) (dec_lt k d.m)

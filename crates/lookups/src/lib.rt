@@ -1,13 +1,13 @@
 // Devices given by a rule: what such a device is, and a lookup in its constant table, for any of them.
 #![tactic(auto)]
 
-ghost use Rattle.std.specs.Prelude.{◌≡◌, ℕ, ◌≤◌};
+ghost use Rattle.std.specs.Prelude.{◌≡◌, ◌⊎◌, ℕ, ◌≤◌, ◌<◌};
 ghost use Rattle.base.specs.Tables.{cell};
 ghost use Rattle.lookups.specs.Rules.{DeviceRule, OutcomesOf};
 ghost use Rattle.lookups.specs.Lookup.{EqualsRule, Looked};
 ghost use Rattle.lookups.specs.Computed.{answered, answer_of};
 
-// A device given by a rule: its states and its commands, and the rule worked out.
+// A device given by a rule: how many states and commands it has, and a function that works the rule out.
 pub trait GivenByRule {
     const STATES: u64;
 
@@ -23,8 +23,10 @@ pub trait GivenByRule {
     fn outcomes(state: u64, command: u64) -> u64
         ensures { OutcomesOf rule state command result };
 
-    ghost all_numbers: { (STATES ≡ rule.n) × (COMMANDS ≡ rule.m) };
+    // Both are the rule's.
+    ghost numbers: { (STATES ≡ rule.n) × (COMMANDS ≡ rule.m) };
 
+    // 01: "n from 1 to 64, .. m from 1 to 32".
     ghost within_limits: { (1 ≤ STATES) × (STATES ≤ 64) × (1 ≤ COMMANDS) × (COMMANDS ≤ 32) };
 }
 
@@ -60,9 +62,10 @@ impl From<Option<u64>> for LookupResult {
 }
 
 // The mask of a command in a state, by a table with an entry for each; None for what is no state or no command.
-#[tactic(auto, using(std::proofs::lemmas::Bool::Decides::nat_tests), unfolding(crate::specs::Computed::answer_of, base::specs::Tests::pick, base::specs::Tables::cell))]
+#[tactic(auto, unfolding(base::specs::Tables::cell))]
 fn mask_in<D: GivenByRule>(table: &[u64], state: u64, command: u64) -> Option<u64>
-    ensures { answered result ≡ answer_of D.rule.n D.rule.m state command (cell D.rule.m table.now state command) }
+    ensures outside { (D.rule.n ≤ state) ⊎ (D.rule.m ≤ command) → result ≡ None }
+    ensures inside { state < D.rule.n → command < D.rule.m → result ≡ Some (cell D.rule.m table.now state command) }
 {
     if state >= D::STATES || command >= D::COMMANDS {
         return None;
@@ -72,6 +75,7 @@ fn mask_in<D: GivenByRule>(table: &[u64], state: u64, command: u64) -> Option<u6
 }
 
 // The outcomes of a command in a state, by a constant table of the device. Code 5 for what is no state or no command.
+#[tactic(auto, using(std::proofs::lemmas::Bool::Decides::nat_tests), unfolding(crate::specs::Computed::answer_of, base::specs::Tests::pick))]
 pub fn lookup<D: GivenByRule>(table: &[u64], state: u64, command: u64) -> LookupResult
     ensures entry { result ≡ answer_of D.rule.n D.rule.m state command (cell D.rule.m table.now state command) }
     ensures by_rule { (not_empty : ℕ) → EqualsRule D.rule not_empty table.now → Looked D.rule state command result }

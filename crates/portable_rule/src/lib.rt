@@ -65,7 +65,7 @@ impl GivenByRule for PortableRelay {
         outcomes(state, command)
     }
 
-    ghost all_numbers = { Prim.omega arith };
+    ghost numbers = { Prim.omega arith };
 
     ghost within_limits = { Prim.omega arith };
 }

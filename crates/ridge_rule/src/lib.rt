@@ -91,7 +91,7 @@ impl GivenByRule for RidgeRepeater {
         outcomes(state, command)
     }
 
-    ghost all_numbers = { Prim.omega arith };
+    ghost numbers = { Prim.omega arith };
 
     ghost within_limits = { Prim.omega arith };
 }

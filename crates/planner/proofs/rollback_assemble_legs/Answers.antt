@@ -7,7 +7,7 @@ use Rattle.planner.proofs.rollback_assemble_legs.Goals as goal
 pub fill_legs-requires : goal.fill_legs-requires
 fill_legs-requires c =
     let few : c.assemble-result.result.legs ≤ 32 = legs-few c.assemble-result.ensures in
-    (omega arith, few)
+    (omega arith, omega arith)
 
 pub returns : goal.returns
 returns c = told_enough c.assemble-result.ensures _ _ (omega arith) c.fill_legs.ensures

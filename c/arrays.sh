@@ -6,9 +6,8 @@
 # if its length can't be read, or if one that is listed is not there.
 set -eu
 cd "${1:-$(dirname "$0")/..}"
-allowed='planner Whole          the legs as bytes: rollback_assemble_legs
-planner assemble_whole the same
-planner leg_of         the same'
+allowed='planner rollback_assemble_legs the legs as bytes
+planner fill_legs              the same'
 planner=crates/planner/src
 
 # The crates that a function of planner calls, one to a line.

@@ -1,7 +1,7 @@
 // Reading a file into a lent row.
 #![tactic(auto)]
 
-ghost use Rattle.std.specs.Prelude.{◌≤◌, length, IfOk, IsUtf8};
+ghost use Rattle.std.specs.Prelude.{IfOk, IsUtf8};
 ghost use Rattle.io.specs.Counts.{IsPrefixLen};
 
 use std::fs::File;
@@ -12,20 +12,8 @@ use std::rt::Files;
 pub fn open_read<R: Files>(rt: &R, path: &[u8]) -> Result<R::File>
     ensures { IfOk result (λ file. IsUtf8 path.now) }
 {
-    match str::from_utf8(path) {
-        Ok(name) => File::open(rt, name),
-        Err(_) => Err(Error::from(ErrorKind::InvalidInput)),
-    }
-}
-
-// Reads once. The answer is the number of bytes; none where it fails.
-fn read_once<F: Read>(file: &mut F, buf: &mut [u8]) -> usize
-    ensures { result ≤ length buf.new }
-{
-    match file.read(buf) {
-        Ok(n) => n,
-        Err(_) => 0,
-    }
+    let name = str::from_utf8(path).map_err(|_| Error::from(ErrorKind::InvalidInput))?;
+    File::open(rt, name)
 }
 
 // Reads until the row is full, the file ends or a read fails. The answer is how many bytes are at the start of the row.
@@ -34,7 +22,7 @@ pub fn read_full<F: Read>(file: &mut F, buf: &mut [u8]) -> usize
 {
     let mut done = 0;
     while done < buf.len() {
-        let n = read_once(file, &mut buf[done..]);
+        let n = file.read(&mut buf[done..]).unwrap_or(0);
         if n == 0 {
             break;
         }
@@ -47,30 +35,23 @@ pub fn read_full<F: Read>(file: &mut F, buf: &mut [u8]) -> usize
 pub fn read_file<R: Files>(rt: &R, path: &[u8], buf: &mut [u8]) -> usize
     ensures { IsPrefixLen result buf.new }
 {
-    match open_read(rt, path) {
-        Ok(file) => {
-            let mut file = file;
-            read_full(&mut file, buf)
-        }
-        Err(_) => 0,
-    }
+    let Ok(mut file) = open_read(rt, path) else {
+        return 0;
+    };
+    read_full(&mut file, buf)
 }
 
 // The first bytes of a folder's file; none where it can't be read, or where one of the names has over 2,047 bytes. The answer is their number.
 pub fn read_in<R: Files>(rt: &R, folder: &[u8], name: &[u8], buf: &mut [u8]) -> usize
     ensures { IsPrefixLen result buf.new }
 {
-    let folder_size = folder.len();
-    let name_size = name.len();
-    if 2047 < folder_size {
-        return 0;
-    }
-    if 2047 < name_size {
+    if 2047 < folder.len() || 2047 < name.len() {
         return 0;
     }
     let mut path = [0u8; 4096];
-    octets::copy(folder_size, folder, 0, &mut path, 0);
-    octets::put_le(1, 47, &mut path, folder_size);
-    octets::copy(name_size, name, 0, &mut path, folder_size + 1);
-    read_file(rt, &path[..folder_size + 1 + name_size], buf)
+    let end = folder.len() + 1 + name.len();
+    path[..folder.len()].copy_from_slice(folder);
+    path[folder.len()] = b'/';
+    path[folder.len() + 1..end].copy_from_slice(name);
+    read_file(rt, &path[..end], buf)
 }

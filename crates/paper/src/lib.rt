@@ -91,10 +91,7 @@ pub fn lay_out(
             length: 0,
         };
     }
-    let result = assembly::assemble(book, run, table, slots, weights, plan, legs);
-    let length = put_lines(slots, legs, result.legs as usize, page);
-    Paged {
-        assembly: result,
-        length: length as u64,
-    }
+    let assembly = assembly::assemble(book, run, table, slots, weights, plan, legs);
+    let length = put_lines(slots, legs, assembly.legs as usize, page) as u64;
+    Paged { assembly, length }
 }

@@ -2,7 +2,6 @@
 use mathlib.Core.Path.{◌≡◌, refl, sym, ap, ap₂, ◌∙◌, subst}
 use mathlib.Core.List.{List, [], ◌∷◌, map}
 use Prim.Native.Nat.{ℕ, suc, ◌+◌, ◌-◌, ◌≤◌, ◌<◌}
-use native.Mathlib.Decide.{dec_lt}
 use native.Mathlib.Omega.{arith}
 use lib.ListN.{length, set, take}
 use lib.Seq.{sets}
@@ -17,11 +16,10 @@ use Rattle.assembly.specs.LegsRead.{legs_read}
 use Rattle.assembly.specs.Assembles.{refusal, result_of}
 use Rattle.assembly.specs.Contract.{plan_by, room_of, PlannedAs, AssembleAs}
 use Rattle.assembly.proofs.LegsRead.{legs-read}
-use Rattle.assembly.proofs.Exactly.{Even, even-bytes, Outcome, refused, given, outcome, legs-few}
+use Rattle.assembly.proofs.Exactly.{Even, even-bytes, Outcome, refused, given, outcome}
 use Rattle.planner.specs.declared.Leg.{Leg}
-use Rattle.planner.specs.declared.Whole.{Whole}
 use Rattle.planner.specs.Structs.{struct_of, in_structs}
-use Rattle.planner.specs.Whole.{leg_at, structs_in, zeros, WholeAs}
+use Rattle.planner.specs.Whole.{leg_at, structs_in, zeros}
 
 -- one struct for a leg
 pub even_structs : Even in_structs
@@ -53,30 +51,15 @@ chain_structs ls h =
     (legs-read ls (sets zeros 0 (legs_bytes ls)) (length ls) refl
     (ap (λ (k : ℕ). take k (sets zeros 0 (legs_bytes ls))) (sym (even-bytes ls)) ∙ front))
 
--- ---- assembling with bytes
-module _ {ask : Asked} {read : Lent} {plan : List ℕ} {room : ℕ} (bytes : List ℕ) (h : Each (λ x. x < 256) ask.book) where
-  pub whole_short : room < 32 → {r : Assembly} → r ≡ refusal 1 0 → WholeAs ask read plan room (record { result = r; bytes = bytes; count = 0 }) read plan
-  whole_short l e =
-      record {
-        bytes_of_book = h;
-        short = λ _. (e, refl, refl);
-        enough = λ k. absurd (omega arith);
-        counted = sym (ap (λ (x : Assembly). x.legs) e);
-        within = (omega arith, omega arith);
-      }
+-- ---- fewer than 32 structs
+module _ {ask : Asked} {read : Lent} {plan : List ℕ} {legs : List Leg} where
+  pub structs_short : Each (λ x. x < 256) ask.book → length legs < 32 → {r : Assembly} → r ≡ refusal 1 0
+      → AssembleAs in_structs ask (all_lent read plan legs) r (all_lent read plan legs)
+  structs_short h l e = record { bytes = h; short = λ _. (e, refl); enough = λ k. absurd (omega (arith, k.1.0)) }
 
+-- ---- assembling with bytes
 module _ {ask : Asked} {read : Lent} {plan : List ℕ} {r : Assembly} {read' : Lent} {plan' bytes : List ℕ}
     (c : AssembleAs in_bytes ask (all_lent read plan zeros) r (all_lent read' plan' bytes)) where
-  pub whole_enough : (room : ℕ) → 32 ≤ room → WholeAs ask read plan room (record { result = r; bytes = bytes; count = r.legs }) read' plan'
-  whole_enough room h =
-      record {
-        bytes_of_book = c.bytes;
-        short = λ k. absurd (omega arith);
-        enough = λ _. c;
-        counted = refl;
-        within = (omega (arith, legs-few c), legs-few c);
-      }
-
   module _ (legs legs' : List Leg) (l : 32 ≤ length legs) (e : legs' ≡ sets legs 0 (structs_in bytes r.legs 0)) where
     counted : {x : Assembly} → r ≡ x → legs' ≡ sets legs 0 (structs_in bytes x.legs 0)
     counted q = e ∙ ap (λ (x : Assembly). sets legs 0 (structs_in bytes x.legs 0)) q
@@ -103,7 +86,7 @@ module _ {ask : Asked} {read : Lent} {plan : List ℕ} {r : Assembly} {read' : L
             ∙ sym (f (Room Leg) _ _)
 
     -- the call with structs goes the way of the one with bytes
-    told_enough : AssembleAs in_structs ask (all_lent read plan legs) r (all_lent read' plan' legs')
+    pub told_enough : AssembleAs in_structs ask (all_lent read plan legs) r (all_lent read' plan' legs')
     unfolding legs_read
     told_enough =
         record {
@@ -114,22 +97,3 @@ module _ {ask : Asked} {read : Lent} {plan : List ℕ} {r : Assembly} {read' : L
               (q, ap (all_lent read' plan') (counted q) ∙ ap (λ (x : AllLent ℕ). all_lent x.read x.room.plan legs) w);
           enough = λ h. let (p, k) = c.enough (h.0, (omega arith, h.1.1)) in (structs_planned p, k);
         }
-
--- ---- the whole call
-module _ {ask : Asked} {read : Lent} {plan : List ℕ} {w : Whole} {read' : Lent} {plan' : List ℕ} where
-  pub legs_told : (legs legs' : List Leg) (r : Assembly) → WholeAs ask read plan (length legs) w read' plan'
-      → legs' ≡ sets legs 0 (structs_in w.bytes w.count 0) → r ≡ w.result → AssembleAs in_structs ask (all_lent read plan legs) r (all_lent read' plan' legs')
-  unfolding legs_read
-  legs_told legs legs' r a e f = go (dec_lt (length legs) 32)
-    where
-      legs_are : legs' ≡ sets legs 0 (structs_in w.bytes w.result.legs 0)
-      legs_are = e ∙ ap (λ (k : ℕ). sets legs 0 (structs_in w.bytes k 0)) a.counted
-
-      go : Dec (length legs < 32) → AssembleAs in_structs ask (all_lent read plan legs) r (all_lent read' plan' legs')
-      go (yes h) =
-          let (p, er, ep) = a.short h in
-          let none : legs' ≡ legs = legs_are ∙ ap (λ (x : Assembly). sets legs 0 (structs_in w.bytes x.legs 0)) p in
-          record { bytes = a.bytes_of_book; short = λ _. (f ∙ p, rw (er, ep, none) refl); enough = λ k. absurd (omega (arith, k.1.0)) }
-      go (no h) =
-          subst (λ (x : Assembly). AssembleAs in_structs ask (all_lent read plan legs) x (all_lent read' plan' legs')) (sym f)
-          (told_enough (a.enough (omega arith)) legs legs' (omega arith) legs_are)

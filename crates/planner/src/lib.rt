@@ -2,7 +2,7 @@
 // on to. `planner_c` exports them.
 #![tactic(auto)]
 
-ghost use Rattle.std.specs.Prelude.{◌≡◌, ◌≤◌, ◌<◌, length};
+ghost use Rattle.std.specs.Prelude.{◌≡◌, ◌≤◌, length};
 ghost use Rattle.std.proofs.lemmas.List.Edits.{sets};
 ghost use Rattle.book.specs.Lent.{lent};
 ghost use Rattle.reader.specs.Contract.{ReadAs};
@@ -16,11 +16,12 @@ ghost use Rattle.assembly.specs.Contract.{AssembleAs, SmallAs};
 ghost use Rattle.assembly.specs.Lent.{in_bytes, lent_room, all_lent};
 ghost use Rattle.paper.specs.Contract.{PageAs};
 ghost use Rattle.planner.specs.Structs.{in_structs};
-ghost use Rattle.planner.specs.Whole.{leg_at, structs_in, WholeAs};
+ghost use Rattle.planner.specs.Whole.{structs_in};
 ghost use Rattle.ridge.specs.Computed.{ridge_lookup};
 ghost use Rattle.portable.specs.Computed.{portable_lookup};
 
 use assembly::Assembly;
+use book::Fault;
 use checker::Checking;
 use finder::Found;
 use forecast::Forecasted;
@@ -139,79 +140,31 @@ pub fn rollback_portable(state: u64, command: u64) -> LookupResult
 
 // A leg: item number, upper point, lower point.
 #[repr(C)]
-#[derive(Drop)]
+#[derive(Clone, Copy, Debug, PartialEq, Eq)]
 pub struct Leg {
     pub item: u8,
     pub upper: u8,
     pub lower: u8,
 }
 
-// An answer with its legs as bytes, and the number of legs to write.
-#[derive(Clone, Copy)]
-struct Whole {
-    result: Assembly,
-    bytes: [u8; assembly::LEGS_LEN],
-    count: usize,
-}
+impl From<[u8; 3]> for Leg {
+    ghost use Rattle.std.specs.Prelude.{◌≡◌, slice_index_or};
 
-// Assembles with the legs as bytes, where there is room for 32 structs.
-fn assemble_whole(
-    book: &[u8],
-    run: &[u8],
-    table: &mut [u64],
-    slots: &mut [u8],
-    weights: &mut [u16],
-    plan: &mut [u8],
-    room: usize,
-) -> Whole
-    ensures { WholeAs (asked book.now run.now)
-        (lent table.old slots.old weights.old) plan.old room result
-        (lent table.new slots.new weights.new) plan.new }
-{
-    let mut bytes = [0u8; assembly::LEGS_LEN];
-    if room < 32 {
-        return Whole {
-            result: assembly::refused(1, 0),
-            bytes: bytes,
-            count: 0,
-        };
-    }
-    let result = assembly::assemble(book, run, table, slots, weights, plan, &mut bytes);
-    Whole {
-        result: result,
-        bytes: bytes,
-        count: result.legs as usize,
+    ghost from_gives = { λ bytes leg. leg ≡ record { item = slice_index_or bytes 0 0; upper = slice_index_or bytes 1 0; lower = slice_index_or bytes 2 0 } };
+
+    fn from(bytes: [u8; 3]) -> Leg {
+        let [item, upper, lower] = bytes;
+        Leg { item, upper, lower }
     }
 }
 
-// The leg of the three bytes from 3 * i on.
-fn leg_of(s: [u8; assembly::LEGS_LEN], i: usize) -> Leg
-    requires { i < 32 }
-    ensures { result ≡ leg_at s i }
+// Writes the legs counted, each from three bytes.
+fn fill_legs(legs: &mut [Leg], bytes: &[u8; assembly::LEGS_LEN], count: usize)
+    requires { (count ≤ length legs.old) × (count ≤ 32) }
+    ensures { legs.new ≡ sets legs.old 0 (structs_in bytes.now count 0) }
 {
-    Leg {
-        item: s[3 * i],
-        upper: s[3 * i + 1],
-        lower: s[3 * i + 2],
-    }
-}
-
-fn result_of(w: Whole) -> Assembly
-    ensures { result ≡ w.result }
-{
-    w.result
-}
-
-// Writes the legs counted.
-fn fill_legs(legs: &mut [Leg], w: Whole)
-    requires { (w.count ≤ length legs.old) × (w.count ≤ 32) }
-    ensures { legs.new ≡ sets legs.old 0 (structs_in w.bytes w.count 0) }
-{
-    let n = w.count;
-    let mut i: usize = 0;
-    while i < n {
-        legs[i] = leg_of(w.bytes, i);
-        i = i + 1;
+    for i in 0..count {
+        legs[i] = Leg::from([bytes[3 * i], bytes[3 * i + 1], bytes[3 * i + 2]]);
     }
 }
 
@@ -229,7 +182,11 @@ pub fn rollback_assemble_legs(
         (all_lent (lent table.old slots.old weights.old) plan.old legs.old) result
         (all_lent (lent table.new slots.new weights.new) plan.new legs.new) }
 {
-    let w = assemble_whole(book, run, table, slots, weights, plan, legs.len());
-    fill_legs(legs, w);
-    result_of(w)
+    if legs.len() < 32 {
+        return assembly::refused(Fault::ShortBuffer.into(), 0);
+    }
+    let mut bytes = [0u8; assembly::LEGS_LEN];
+    let result = assembly::assemble(book, run, table, slots, weights, plan, &mut bytes);
+    fill_legs(legs, &bytes, result.legs as usize);
+    result
 }

@@ -23,31 +23,35 @@
 //               would be 7
 #![tactic(auto)]
 
-use std::io::Print;
 use std::rt::Files;
 
+const FOLDERS: [&str; 16] = [
+    "q8",
+    "q9",
+    "q11",
+    "q2",
+    "q4",
+    "no_book",
+    "no_run",
+    "run_folder",
+    "plan_256",
+    "run_302",
+    "run_602",
+    "dear",
+    "even",
+    "ones",
+    "book_31179",
+    "book_31180",
+];
+
 // What standard output does not take is let go.
-fn print_folder<R: Files + Print>(rt: &R, folder: &[u8]) {
-    let _ = rt.write_all(folder);
-    let _ = rt.write_all(b"\n");
-    program::print_in(rt, folder);
+fn print_folder<R: Files + Print>(rt: &R, folder: &str) {
+    let _ = rt.println(folder);
+    program::print_in(rt, folder.as_bytes());
 }
 
 fn main(rt: HostRuntime) {
-    print_folder(&rt, b"q8");
-    print_folder(&rt, b"q9");
-    print_folder(&rt, b"q11");
-    print_folder(&rt, b"q2");
-    print_folder(&rt, b"q4");
-    print_folder(&rt, b"no_book");
-    print_folder(&rt, b"no_run");
-    print_folder(&rt, b"run_folder");
-    print_folder(&rt, b"plan_256");
-    print_folder(&rt, b"run_302");
-    print_folder(&rt, b"run_602");
-    print_folder(&rt, b"dear");
-    print_folder(&rt, b"even");
-    print_folder(&rt, b"ones");
-    print_folder(&rt, b"book_31179");
-    print_folder(&rt, b"book_31180");
+    for folder in FOLDERS {
+        print_folder(&rt, folder);
+    }
 }

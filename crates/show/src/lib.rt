@@ -17,10 +17,9 @@ pub fn put_right(out: &mut [u8], at: usize, width: usize, n: u64) -> usize
     let k = io::decimal(n, &mut text);
     let pad = width.saturating_sub(k);
     octets::fill(pad, b' ', out, at);
-    if !octets::has_room(out.len(), at, pad) {
-        return pad + k;
+    if octets::has_room(out.len(), at, pad) {
+        octets::copy(k, &text[..k], 0, out, at + pad);
     }
-    octets::copy(k, &text[..k], 0, out, at + pad);
     pad + k
 }
 

@@ -9,11 +9,10 @@ use Rattle.reversal.specs.Runs.{Run}
 use Rattle.book.specs.Lent.{Lent}
 use Rattle.book.specs.Example.{bytes_q}
 use Rattle.runs.specs.RunBytes.{run_bytes}
-use Rattle.states.specs.StateSets.{outcomes_in, visited_in, sent_in}
+use base.Fml.{Lft}
+use Rattle.states.specs.StateSets.{visited_in, sent_in}
 use Rattle.states.specs.Visits.{VisitsPresent, SendsToPresent}
 use Rattle.states.proofs.Visits.{visit_present, sent_present}
-use Rattle.states.specs.contracts.StateSet.visit as visit
-use Rattle.states.specs.contracts.StateSet.sent as sent
 use Rattle.reader.specs.Contract.{ReadAs}
 use Rattle.reader.proofs.Exactly.{reads}
 use Rattle.reader.proofs.Unique.{zero↔ as read-zero↔}
@@ -79,10 +78,10 @@ use Rattle.planner.specs.contracts.rollback_assemble_legs as assemble-legs
 use Rattle.report.specs.Contract.{ReportAs}
 use Rattle.report.proofs.Exactly.{reports}
 use Rattle.report.specs.contracts.report as report
-use Rattle.claims.specs.Always.{Compiled, Always}
-use Rattle.claims.specs.Claims.{on_read, on_check, on_check_table, on_forecast, on_find, on_write, on_assemble, on_small, on_legs, on_lay_out, on_lookup, on_outcomes, on_report, WellWritten, ReadClaims, ChecksWrong, CheckClaims, AsChecking, CheckTableClaims, ForecastNumbers, NoneExceeds, ForecastClaims, FindsZero, FindsBarred, FindsNone, FoundCommands, FoundAsChecking, FindClaims, WriteClaims, AssembleClaims, SmallClaims, EqualForms, LegsClaims, AsAssembling, PaperClaims, LookupClaims, RuleClaims, ConstantTable, RidgeTable, PortableTable, ReportClaims, on_visit, on_sent, VisitClaims}
+use Rattle.claims.specs.Always.{Compiled, Always, AlwaysHeld}
+use Rattle.claims.specs.Claims.{Implementation, visit_ended, sent_ended, on_visit, on_sent, held, on_read, on_check, on_check_table, on_forecast, on_find, on_write, on_assemble, on_small, on_legs, on_lay_out, on_lookup, on_outcomes, on_report, WellWritten, ReadClaims, ChecksWrong, CheckClaims, AsChecking, CheckTableClaims, ForecastNumbers, NoneExceeds, ForecastClaims, FindsZero, FindsBarred, FindsNone, FoundCommands, FoundAsChecking, FindClaims, WriteClaims, AssembleClaims, SmallClaims, EqualForms, LegsClaims, AsAssembling, PaperClaims, LookupClaims, RuleClaims, ConstantTable, RidgeTable, PortableTable, ReportClaims, VisitClaims}
 use Rattle.claims.specs.Worked.{ChecksWorked, TableWorked, ForecastsWorked, FindsWorked, AssemblesWorked, SmallWorked, PaperWorked, ReadsWorked, WritesWorked}
-use Rattle.claims.proofs.Weaker.{weaker}
+use Rattle.claims.proofs.Weaker.{weaker, weaker_held}
 use Rattle.claims.proofs.RoundTrips.{read_back, write_back}
 use Rattle.claims.proofs.Foreseen.{units_foreseen}
 
@@ -105,18 +104,17 @@ equal_claims ρ σ first small =
     }
 
 -- what applies a command to a set, each routine by its own contract
-pub visit_claims : (ρ σ : Compiled) → Always visit.ended ρ (on_visit outcomes_in (λ d c w r. r ≡ visited_in d c w))
-    → Always sent.ended σ (on_sent outcomes_in (λ d c w r. r ≡ sent_in d c w)) → VisitClaims ρ σ
-visit_claims ρ σ visits sends =
+pub visit_claims : (I : Implementation) (ρ σ : Lft → Compiled)
+    → ((κ : Lft) → AlwaysHeld (visit_ended I κ) (held I κ) (ρ κ) (on_visit I κ (λ d c w r. r ≡ visited_in d c w)))
+    → ((κ : Lft) → AlwaysHeld (sent_ended I κ) (held I κ) (σ κ) (on_sent I κ (λ d c w r. r ≡ sent_in d c w))) → VisitClaims I ρ σ
+visit_claims I ρ σ visits sends =
     record {
-      outcomes = outcomes_in;
-      in_table = λ book table n m s c. refl;
-      visits =
-          weaker visit.ended ρ (on_visit outcomes_in (λ d c w r. r ≡ visited_in d c w))
-          (on_visit outcomes_in (λ d c w r. d.n ≤ 64 → d.m ≤ 32 → VisitsPresent d c w r)) (λ κs a r e q hn hm. visit_present _ _ _ hn hm q) visits;
-      sends =
-          weaker sent.ended σ (on_sent outcomes_in (λ d c w r. r ≡ sent_in d c w))
-          (on_sent outcomes_in (λ d c w r. d.n ≤ 64 → d.m ≤ 32 → SendsToPresent d c w r)) (λ κs a r e q hn hm. sent_present _ _ _ hn hm q) sends;
+      visits = λ κ.
+          weaker_held (visit_ended I κ) (held I κ) (ρ κ) (on_visit I κ (λ d c w r. r ≡ visited_in d c w))
+          (on_visit I κ (λ d c w r. d.n ≤ 64 → d.m ≤ 32 → VisitsPresent d c w r)) (λ κs a r e q hn hm. visit_present _ _ _ hn hm q) (visits κ);
+      sends = λ κ.
+          weaker_held (sent_ended I κ) (held I κ) (σ κ) (on_sent I κ (λ d c w r. r ≡ sent_in d c w))
+          (on_sent I κ (λ d c w r. d.n ≤ 64 → d.m ≤ 32 → SendsToPresent d c w r)) (λ κs a r e q hn hm. sent_present _ _ _ hn hm q) (sends κ);
     }
 
 module _ (ρ : Compiled) where

@@ -2,7 +2,7 @@
 -- says leaves one answer only, and the worked cases.
 use mathlib.Core.Path.{◌≡◌, refl, subst}
 use mathlib.Core.Logic.{◌⊎◌, ◌↔◌}
-use mathlib.Core.List.{List}
+use mathlib.Core.List.{List, [], ◌∷◌}
 use Prim.Native.Nat.{ℕ, ◌+◌, ◌-◌, ◌*◌, ◌/◌, ◌%◌, ◌^◌, ◌≤◌, ◌<◌, zero-le}
 use native.Mathlib.Omega.{arith}
 use lib.Count.{count_trailing_zeros}
@@ -37,6 +37,23 @@ use Rattle.reversal.proofs.Assembling.{cost-most, numbers-right, answer-right}
 use Rattle.reversal.proofs.OneAnswer.{answers_unique}
 use Rattle.reversal.proofs.Sizes.{worked_units}
 use Rattle.reversal.proofs.Cases.{twelve, weighted}
+use base.Fml.{Lft}
+use denote.Param.{bounded}
+use mir.Syntax.{Args, Callee, erased, a_type, dcons, dnil}
+use prog.Wired.{Code, Codes, node, and, end}
+use Rattle.moves.specs.Moves.{moved}
+use Rattle.states.specs.declared.device.Tabled.{Tabled}
+use Rattle.states.specs.declared.device.Moved.{Moved}
+use Rattle.states.proofs.device.Tabled.TheLaws as tabled_laws
+use Rattle.states.proofs.device.TabledOutcomes.TheImpl.Met as table_met
+use Rattle.states.proofs.device.TabledOutcomes.n.Symbol as table_n_symbol
+use Rattle.states.proofs.device.TabledOutcomes.m.Symbol as table_m_symbol
+use Rattle.states.proofs.device.TabledOutcomes.outcomes_at.Symbol as table_outcomes_symbol
+use Rattle.states.proofs.device.Moved.TheLaws as moved_laws
+use Rattle.states.proofs.device.MovedOutcomes.TheImpl.Met as moves_met
+use Rattle.states.proofs.device.MovedOutcomes.n.Symbol as moves_n_symbol
+use Rattle.states.proofs.device.MovedOutcomes.m.Symbol as moves_m_symbol
+use Rattle.states.proofs.device.MovedOutcomes.outcomes_at.Symbol as moves_outcomes_symbol
 use Rattle.states.proofs.StateSet.visit.Symbol as visit_routine_symbol
 use Rattle.states.proofs.StateSet.visit.Met.{met as visit-met}
 use Rattle.states.proofs.StateSet.sent.Symbol as sent_routine_symbol
@@ -202,7 +219,7 @@ use Rattle.report.specs.Edges as report-edges
 use Rattle.report.proofs.Edges as report-edge-cases
 use Rattle.report.proofs.report.Symbol as report_routine_symbol
 use Rattle.report.proofs.report.Met.{met as report-met}
-use Rattle.claims.specs.Claims.{on_read, on_check, on_check_table, on_forecast, on_find, on_write, on_assemble, on_small, on_legs, on_lay_out, ReadClaims, UnitsForeseen, CheckClaims, CheckTableClaims, ForecastNumbers, ForecastClaims, FoundJoins, FindClaims, WriteClaims, PlanUndoes, SmallUndoes, AssembleClaims, SmallClaims, EqualForms, LegsClaims, PaperClaims, LookupClaims, RuleClaims, ConstantTable, RidgeTable, PortableTable, VisitClaims, ReportClaims}
+use Rattle.claims.specs.Claims.{Implementation, by_table, by_moves, on_read, on_check, on_check_table, on_forecast, on_find, on_write, on_assemble, on_small, on_legs, on_lay_out, ReadClaims, UnitsForeseen, CheckClaims, CheckTableClaims, ForecastNumbers, ForecastClaims, FoundJoins, FindClaims, WriteClaims, PlanUndoes, SmallUndoes, AssembleClaims, SmallClaims, EqualForms, LegsClaims, PaperClaims, LookupClaims, RuleClaims, ConstantTable, RidgeTable, PortableTable, VisitClaims, ReportClaims}
 use Rattle.claims.specs.Always.{Compiled, Always}
 use Rattle.claims.specs.Worked.{ChecksWorked, TableWorked, ForecastsWorked, FindsWorked, AssemblesWorked, SmallWorked, PaperWorked, ReadsWorked, WritesWorked}
 use Rattle.claims.proofs.Foreseen as foreseen
@@ -211,11 +228,28 @@ use Rattle.claims.proofs.Calls.{read_claims, check_claims, forecast_claims, find
 
 -- ---- the compiled code of the calls
 
-abbrev visit_routine : Compiled
-visit_routine = record { name = visit_routine_symbol.name; code = visit_routine_symbol.code }
+-- a generic function at an implementation: its name there, and its code with that of the implementation's functions
+abbrev at_implementation : Implementation → Lft → (Args → Callee) → Code → Codes → Compiled
+at_implementation I κ name code given =
+    record { name = name (bounded (a_type ∷ []) (I.type κ, tt) (dcons I.dict dnil)); code = node [] [] (and code given) }
 
-abbrev sent_routine : Compiled
-sent_routine = record { name = sent_routine_symbol.name; code = sent_routine_symbol.code }
+abbrev table_functions : Codes
+table_functions = and table_n_symbol.code (and table_m_symbol.code (and table_outcomes_symbol.code end))
+
+abbrev moves_functions : Codes
+moves_functions = and moves_n_symbol.code (and moves_m_symbol.code (and moves_outcomes_symbol.code end))
+
+abbrev visit_by_table : Lft → Compiled
+visit_by_table κ = at_implementation by_table κ visit_routine_symbol.name visit_routine_symbol.code table_functions
+
+abbrev sent_by_table : Lft → Compiled
+sent_by_table κ = at_implementation by_table κ sent_routine_symbol.name sent_routine_symbol.code table_functions
+
+abbrev visit_by_moves : Lft → Compiled
+visit_by_moves κ = at_implementation by_moves κ visit_routine_symbol.name visit_routine_symbol.code moves_functions
+
+abbrev sent_by_moves : Lft → Compiled
+sent_by_moves κ = at_implementation by_moves κ sent_routine_symbol.name sent_routine_symbol.code moves_functions
 
 abbrev read_routine : Compiled
 read_routine = record { name = read_routine_symbol.name; code = read_routine_symbol.code }
@@ -481,8 +515,33 @@ pub trailing_zeros : (w : ℕ) → (w ≡ 0 → ⊥) → w < 2 ^ 64 → LowestSt
 trailing_zeros = trailing_zeros_lowest
 
 -- the routines that apply a command to a set visit those present alone, lowest first
-pub visiting : VisitClaims visit_routine sent_routine
-visiting = visit_claims visit_routine sent_routine (λ M. visit-met) (λ M. sent-met)
+-- where the device's table is lent, a state's outcomes are the table's entry
+pub in_table : (κ : Lft) (it : Tabled) → (by_table.ghosts κ).device it ≡ tabled it.n it.m it.table.now
+in_table κ it = refl
+
+pub visiting : VisitClaims by_table visit_by_table sent_by_table
+visiting =
+    visit_claims by_table visit_by_table sent_by_table
+    (λ κ M 𝓤 𝓛 𝓜 𝓡 w.
+      visit-met 𝓤 𝓛 𝓜 𝓡 w.2.0 (by_table.type κ) (tabled_laws.the_row_laws (record { mir = erased; lft = κ })) (by_table.ghosts κ) by_table.dict
+      (table_met.bound 𝓡.env w.2.1.0 w.2.1.1.0 w.2.1.1.1.0 κ M 𝓤 𝓛 𝓜 𝓡))
+    (λ κ M 𝓤 𝓛 𝓜 𝓡 w.
+      sent-met 𝓤 𝓛 𝓜 𝓡 w.2.0 (by_table.type κ) (tabled_laws.the_row_laws (record { mir = erased; lft = κ })) (by_table.ghosts κ) by_table.dict
+      (table_met.bound 𝓡.env w.2.1.0 w.2.1.1.0 w.2.1.1.1.0 κ M 𝓤 𝓛 𝓜 𝓡))
+
+-- where a book's bytes and an index are lent, they are those of its moves
+pub in_moves : (κ : Lft) (it : Moved) → (by_moves.ghosts κ).device it ≡ moved it.book.now it.n it.m it.index.now
+in_moves κ it = refl
+
+pub visiting_moves : VisitClaims by_moves visit_by_moves sent_by_moves
+visiting_moves =
+    visit_claims by_moves visit_by_moves sent_by_moves
+    (λ κ M 𝓤 𝓛 𝓜 𝓡 w.
+      visit-met 𝓤 𝓛 𝓜 𝓡 w.2.0 (by_moves.type κ) (moved_laws.the_row_laws (record { mir = erased; lft = κ })) (by_moves.ghosts κ) by_moves.dict
+      (moves_met.bound 𝓡.env w.2.1.0 w.2.1.1.0 w.2.1.1.1.0 κ M 𝓤 𝓛 𝓜 𝓡))
+    (λ κ M 𝓤 𝓛 𝓜 𝓡 w.
+      sent-met 𝓤 𝓛 𝓜 𝓡 w.2.0 (by_moves.type κ) (moved_laws.the_row_laws (record { mir = erased; lft = κ })) (by_moves.ghosts κ) by_moves.dict
+      (moves_met.bound 𝓡.env w.2.1.0 w.2.1.1.0 w.2.1.1.1.0 κ M 𝓤 𝓛 𝓜 𝓡))
 
 -- the text that the program prints
 pub printing : ReportClaims report_routine

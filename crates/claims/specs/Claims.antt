@@ -1,6 +1,12 @@
 -- What is claimed of the public calls: for each call a record of claims about a routine ρ, which proofs/Page gives for the call itself and for the
 -- exported one. A claim speaks of the arguments, the result r and the arguments at exit, marked '. Nothing is asked of the caller.
-use Rattle.std.specs.Prelude.{◌≡◌, Bool, true, ◌↔◌, List, [], ◌∷◌, ◌++◌, ℕ, ◌*◌, ◌/◌, ◌%◌, ◌<◌, ◌≤◌, length, get_or, take}
+use base.Fml.{Lft}
+use contract.BorrowLft.{◌⊑◌}
+use contract.Lifetimes.{Lfts, lft_at}
+use denote.RattleType.{RattleType}
+use denote.Triple.Clauses.{Ended}
+use mir.Syntax.{Dict, erased}
+use Rattle.std.specs.Prelude.{◌≡◌, Bool, true, Option, ◌↔◌, List, [], ◌∷◌, ◌++◌, ℕ, ◌*◌, ◌/◌, ◌%◌, ◌<◌, ◌≤◌, length, get_or, take}
 use Rattle.base.specs.Sizes.{LongEnough}
 use Rattle.reversal.specs.Device.{Device, entry}
 use Rattle.reversal.specs.Reversal.{Item}
@@ -8,10 +14,15 @@ use Rattle.reversal.specs.Runs.{Run, last}
 use Rattle.reversal.specs.Chains.{Chain, plan_of, Undoes}
 use Rattle.book.specs.Book.{Book, device_of, AllowedBook, frame, item_rec, bytes_of, WellFormed, items_of, items_for}
 use Rattle.states.specs.declared.Visited.{Visited}
-use Rattle.states.specs.declared.Sent.{Sent}
+use Rattle.states.specs.declared.StateSet.{StateSet}
+use Rattle.states.specs.declared.device.Outcomes as outcomes_lent
 use Rattle.states.specs.Visits.{VisitsPresent, SendsToPresent}
 use Rattle.states.specs.contracts.StateSet.visit as visit
 use Rattle.states.specs.contracts.StateSet.sent as sent
+use Rattle.states.specs.contracts.device.Tabled as tabled_row
+use Rattle.states.specs.contracts.device.TabledOutcomes.TheImpl as tabled_impl
+use Rattle.states.specs.contracts.device.Moved as moved_row
+use Rattle.states.specs.contracts.device.MovedOutcomes.TheImpl as moved_impl
 use Rattle.book.specs.Lent.{Lent, lent, sizes, Holds}
 use Rattle.reader.specs.declared.Reading.{Reading}
 use Rattle.reader.specs.Reads.{refusal, Reads}
@@ -58,7 +69,7 @@ use Rattle.planner.specs.Structs.{in_structs}
 use Rattle.planner.specs.contracts.rollback_assemble_legs as assemble-legs
 use Rattle.report.specs.Prints.{Reports}
 use Rattle.report.specs.contracts.report as report
-use Rattle.claims.specs.Always.{After, Compiled, Always}
+use Rattle.claims.specs.Always.{After, Compiled, Always, AlwaysHeld}
 
 -- ---- the shape of each call: P of the arguments, the result and what is at exit
 
@@ -143,18 +154,36 @@ on_outcomes P κs (state, (command, _)) w e = P state command w
 abbrev pub on_report : (List ℕ → List ℕ → List ℕ → ℕ → List ℕ → Type 0) → After report.ended
 on_report P κs (book, (run, (out, _))) r (_, (_, (out', _))) = P book.now run.now out.now r out'.now
 
--- what a command does to a set, of the device that is lent: `outcomes` says how a state's are read in what is lent (whether that is a table, the book, the
--- masks, n, m, the state and the command)
-abbrev pub OutcomesRead : Type 0
-OutcomesRead = Bool → List ℕ → List ℕ → ℕ → ℕ → ℕ → ℕ → ℕ
+-- what a command does to a set, of the device that is lent, by an implementation of `Outcomes`: its type, for each lifetime of what it borrows; the device
+-- that a value of it lends; its functions
+pub record Implementation : Type 2 where
+  pub type : Lft → RattleType
+  pub ghosts : (κ : Lft) → outcomes_lent.Ghosts (type κ).Denot
+  pub dict : Dict
 
-abbrev pub on_visit : OutcomesRead → (Device → ℕ → ℕ → Visited → Type 0) → After visit.ended
-on_visit outcomes P κs (self, (book, (masks, (tabled, (n, (m, (command, _))))))) r e =
-    P (record { n = n; m = m; outcomes = outcomes tabled book.now masks.now n m }) command self.mask r
+-- the two there are: by the device's table, and by a book's moves and their index
+abbrev pub by_table : Implementation
+by_table = record { type = λ κ. tabled_row.the_row (record { mir = erased; lft = κ }); ghosts = λ κ. tabled_impl.ghosts; dict = tabled_impl.dict }
 
-abbrev pub on_sent : OutcomesRead → (Device → ℕ → ℕ → Sent → Type 0) → After sent.ended
-on_sent outcomes P κs (self, (book, (masks, (tabled, (n, (m, (command, _))))))) r e =
-    P (record { n = n; m = m; outcomes = outcomes tabled book.now masks.now n m }) command self.mask r
+abbrev pub by_moves : Implementation
+by_moves = record { type = λ κ. moved_row.the_row (record { mir = erased; lft = κ }); ghosts = λ κ. moved_impl.ghosts; dict = moved_impl.dict }
+
+module _ (I : Implementation) (κ : Lft) where
+  abbrev pub visit_ended : Ended
+  visit_ended = visit.ended (I.type κ) (I.ghosts κ) I.dict
+
+  abbrev pub sent_ended : Ended
+  sent_ended = sent.ended (I.type κ) (I.ghosts κ) I.dict
+
+  abbrev pub on_visit : (Device → ℕ → ℕ → Visited → Type 0) → After visit_ended
+  on_visit P κs (self, (device, (command, _))) r e = P ((I.ghosts κ).device device.now) command self.mask r
+
+  abbrev pub on_sent : (Device → ℕ → ℕ → Option StateSet → Type 0) → After sent_ended
+  on_sent P κs (self, (device, (command, _))) r e = P ((I.ghosts κ).device device.now) command self.mask r
+
+  -- the loan of the device lasts no longer than what the device borrows
+  abbrev pub held : Lfts 2 → Type 0
+  held κs = lft_at 2 1 tt κs ⊑ (I.type κ).lives
 
 -- ---- the round trips: of one call, whatever the other was given
 
@@ -401,13 +430,11 @@ RidgeTable ρ = Always ridge-table.ended ρ (λ κs a r e. ConstantTable ridge 6
 abbrev pub PortableTable : Compiled → Type 2
 PortableTable ρ = Always portable-table.ended ρ (λ κs a r e. ConstantTable portable 384 r)
 
--- 02, request 4: a command visits the states present alone, lowest first; one that is sent to a set goes no further than the first that is stuck. A
--- state's outcomes are the table's entry, where a table is lent.
-pub record VisitClaims (ρ σ : Compiled) : Type 2 where
-  pub outcomes : OutcomesRead
-  pub in_table : (book table : List ℕ) (n m s c : ℕ) → outcomes true book table n m s c ≡ entry n m table s c
-  pub visits : Always visit.ended ρ (on_visit outcomes (λ d c w r. d.n ≤ 64 → d.m ≤ 32 → VisitsPresent d c w r))
-  pub sends : Always sent.ended σ (on_sent outcomes (λ d c w r. d.n ≤ 64 → d.m ≤ 32 → SendsToPresent d c w r))
+-- 02, request 4: a command visits the states present alone, lowest first; one that is sent to a set goes no further than the first that is stuck; of the
+-- device that is lent, however its outcomes are looked up
+pub record VisitClaims (I : Implementation) (ρ σ : Lft → Compiled) : Type 2 where
+  pub visits : (κ : Lft) → AlwaysHeld (visit_ended I κ) (held I κ) (ρ κ) (on_visit I κ (λ d c w r. d.n ≤ 64 → d.m ≤ 32 → VisitsPresent d c w r))
+  pub sends : (κ : Lft) → AlwaysHeld (sent_ended I κ) (held I κ) (σ κ) (on_sent I κ (λ d c w r. d.n ≤ 64 → d.m ≤ 32 → SendsToPresent d c w r))
 
 -- the program's text
 pub record ReportClaims (ρ : Compiled) : Type 2 where

@@ -24,7 +24,7 @@ use Rattle.base.proofs.Masks.{in_member, in_zero, not-member, or_in, one_in, wit
 use Rattle.base.proofs.Added.{one_more_member, one_more_other}
 use Rattle.base.proofs.Trailing.{lowest-there}
 use Rattle.base.proofs.Visiting.{gathered, all_so_far, all_gathered, all_failed}
-use Rattle.base.proofs.Visits.{member-low, lowest-low, left_less, low_same, Left}
+use Rattle.base.proofs.Visits.{some_left, member-low, lowest-low, left_less, low_same, Left}
 use Rattle.octets.specs.Le.{bytes_le}
 use Rattle.reversal.specs.Device.{Device}
 use Rattle.reversal.specs.Computed.Sets.{reach, ends, start_used}
@@ -65,6 +65,10 @@ module _ (d : Device) (S : ℕ) (forward : List ℕ) where
   pub lead_all : (w w' j phi : ℕ) → length forward ≤ j → Leading w j → w' ≡ bit_and w phi → w' ≡ ends d forward phi S
   unfolding reach ends
   lead_all w w' j phi l h q = q ∙ ap (λ (v : ℕ). bit_and v phi) (rw (drop_of_length-le forward l) at h)
+
+-- ---- the lowest start that is left is a state
+pub start_low : {n rest start : ℕ} {none : Bool} → n ≤ 64 → rest < 2 ^ n → none ≡ eqb rest 0 → none ≡ false → start ≡ lowest_in rest → start < n
+start_low few low e t q = omega (arith, lowest-low _ _ few low (some_left e (ap not t)), q)
 
 -- ---- starts: those not left are used or not, with their ends stored; those left are in psi
 module _ (d : Device) (q : Sought) where

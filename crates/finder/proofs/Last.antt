@@ -6,12 +6,15 @@ use mathlib.Core.Logic.{⊎_elim}
 use mathlib.Core.List.{List, [], ◌∷◌, ◌++◌}
 use Prim.Native.Nat.{ℕ, zero, suc, ◌+◌, ◌-◌, ◌*◌, ◌/◌, ◌%◌, ◌^◌, ◌≤◌, ◌<◌}
 use native.Mathlib.Nat.{le_of_suc-le-suc, eq-or-lt_of_le, not-suc-le-zero, mul_assoc, pow-suc, mod-lt}
+use native.Mathlib.Numerals.{add-one}
 use native.Mathlib.Omega.{arith}
 use lib.Bits.{bit_and, bit_or}
 use lib.Count.{count_trailing_zeros}
 use lib.Dec.{T, eqb, eqb→eq, ltb→lt}
 use lib.ListN.{get_or}
 use lib.Pow.{pow_pos}
+use Rattle.std.specs.Prelude.{Option, Some, None}
+use Rattle.std.specs.Option.{option_or}
 use Rattle.base.specs.Sets.{In, NoBitFrom}
 use Rattle.base.specs.Tests.{pick, both, imp}
 use Rattle.base.specs.Bounded.{all}
@@ -30,9 +33,7 @@ use Rattle.reversal.specs.Computed.Sets.{after, able, runs_back}
 use Rattle.states.specs.StateSets.{after_in, able_in}
 use Rattle.states.proofs.Laws.{in_limits_lem, after-limits, able-limits}
 use Rattle.checker.specs.Contract.{returns_in}
-use Rattle.finder.specs.declared.Search.{Search}
-use Rattle.finder.specs.declared.Search.TheVariants.{NoRow, Row}
-use Rattle.finder.specs.Contract.{Passing, all_back, on_row, tries, lowest_row}
+use Rattle.finder.specs.Contract.{Passing, all_back, tries, lowest_row}
 
 -- ---- the mask of the commands that pass
 pub passing_same : {m : ℕ} {f g : ℕ → Bool} {w : ℕ} → Passing m f w → ((c : ℕ) → c < m → f c ≡ g c) → Passing m g w
@@ -258,49 +259,45 @@ last_byte (suc k) row c h l =
     ap₂ (λ (x : ℕ) (y : List ℕ). x ∷ y) (ap (λ (x : ℕ). (row + x) % 256) e ∙ a)
     (ap (λ (x : ℕ). bytes_le (suc k) ((row + x) / 256)) e ∙ ap (bytes_le (suc k)) b ∙ last_byte k (row / 256) c few l)
 
-pub last-command : (count left place row c : ℕ) → left ≡ 1 → left ≤ count → place ≡ 256 ^ (count - left) → row < place → c < 256
-    → bytes_le (count - 1) row ++ (c ∷ []) ≡ bytes_le count (row + c * place)
-last-command count left place row c o l e h b =
-    let k = count - 1 in
-    let s : suc k ≡ count = omega (arith, l, o) in
-    let q : place ≡ 256 ^ k = e ∙ ap (λ (x : ℕ). 256 ^ (count - x)) o in
-    sym (last_byte k row c (omega (arith, h, q)) b) ∙ ap₂ (λ (x y : ℕ). bytes_le x (row + c * y)) s (sym q)
+pub last-command : (count left row c : ℕ) → left ≡ 1 → row < 256 ^ count → c < 256
+    → bytes_le count row ++ (c ∷ []) ≡ bytes_le (count + left) (row + c * 256 ^ count)
+last-command count left row c one h b = rw (one, add-one) (sym (last_byte count row c h b))
 
 -- ---- the lowest of them is what the search from 0 up finds
-tries-none : (f : ℕ → Search) (n c : ℕ) → ((b : ℕ) → c ≤ b → b < c + n → f b ≡ NoRow) → tries f c n ≡ NoRow
+tries-none : (f : ℕ → Option ℕ) (n c : ℕ) → ((b : ℕ) → c ≤ b → b < c + n → f b ≡ None) → tries f c n ≡ None
 unfolding tries
 tries-none f zero c e = refl
 tries-none f (suc n) c e =
-    ap (λ (x : Search). on_row x Row (tries f (suc c) n)) (e c (omega arith) (omega arith)) ∙ tries-none f n (suc c) (λ b l h. e b (omega (arith, l)) (omega (arith, h)))
+    ap (λ (x : Option ℕ). option_or x (tries f (suc c) n)) (e c (omega arith) (omega arith)) ∙ tries-none f n (suc c) (λ b l h. e b (omega (arith, l)) (omega (arith, h)))
 
-tries-first : (f : ℕ → Search) (x y : ℕ) → f x ≡ Row y → (n c : ℕ) → c ≤ x → x < c + n → ((b : ℕ) → c ≤ b → b < x → f b ≡ NoRow) → tries f c n ≡ Row y
+tries-first : (f : ℕ → Option ℕ) (x y : ℕ) → f x ≡ Some y → (n c : ℕ) → c ≤ x → x < c + n → ((b : ℕ) → c ≤ b → b < x → f b ≡ None) → tries f c n ≡ Some y
 unfolding tries
 tries-first f x y q zero c l h e = absurd (omega (arith, l, h))
 tries-first f x y q (suc n) c l h e =
-    ⊎_elim (λ (s : c ≡ x). ap (λ (z : Search). on_row z Row (tries f (suc c) n)) (ap f s ∙ q))
-    (λ (s : c < x). ap (λ (z : Search). on_row z Row (tries f (suc c) n)) (e c (omega arith) s)
+    ⊎_elim (λ (s : c ≡ x). ap (λ (z : Option ℕ). option_or z (tries f (suc c) n)) (ap f s ∙ q))
+    (λ (s : c < x). ap (λ (z : Option ℕ). option_or z (tries f (suc c) n)) (e c (omega arith) s)
     ∙ tries-first f x y q n (suc c) s (omega (arith, h)) (λ b i j. e b (omega (arith, i)) j)) (eq-or-lt_of_le l)
 
 module _ (test : ℕ → Bool) (m left place row : ℕ) (one : left ≡ 1) (w : ℕ) (p : Passing m (λ c. test (row + c * place)) w) where
-  abbrev with : ℕ → Search
+  abbrev with : ℕ → Option ℕ
   with c = lowest_row test m 0 (place * 256) (row + c * place)
 
   only_one : tries with 0 m ≡ lowest_row test m left place row
   unfolding lowest_row
   only_one = rw one
 
-  with_yes : (c : ℕ) → test (row + c * place) ≡ true → with c ≡ Row (row + c * place)
+  with_yes : (c : ℕ) → test (row + c * place) ≡ true → with c ≡ Some (row + c * place)
   unfolding lowest_row pick
   with_yes c t = rw t
 
-  with_no : (c : ℕ) → test (row + c * place) ≡ false → with c ≡ NoRow
+  with_no : (c : ℕ) → test (row + c * place) ≡ false → with c ≡ None
   unfolding lowest_row pick
   with_no c t = rw t
 
-  out : (c : ℕ) → c < m → (In w c → ⊥) → with c ≡ NoRow
+  out : (c : ℕ) → c < m → (In w c → ⊥) → with c ≡ None
   out c l f = with_no c (sym (p.each c l) ∙ not-member w c f)
 
-  pub last_none : w ≡ 0 → NoRow ≡ lowest_row test m left place row
+  pub last_none : w ≡ 0 → None ≡ lowest_row test m left place row
   last_none z = sym (tries-none with m 0 (λ b l h. out b (omega (arith, h)) (λ i. in_zero b (rw z at i)))) ∙ only_one
 
   module _ (some : w ≡ 0 → ⊥) (few : m ≤ 32) where
@@ -314,7 +311,7 @@ module _ (test : ℕ → Bool) (m left place row : ℕ) (one : left ≡ 1) (w : 
     pub last-low : lowest < m
     last-low = p.low lowest (trailing_zeros_lowest w some word).there
 
-    pub last_found : Row (row + lowest * place) ≡ lowest_row test m left place row
+    pub last_found : Some (row + lowest * place) ≡ lowest_row test m left place row
     last_found =
         let low = trailing_zeros_lowest w some word in
         sym (tries-first with lowest (row + lowest * place)

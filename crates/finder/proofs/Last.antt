@@ -1,14 +1,12 @@
--- The last commands of rows, all found at once: the mask of those that pass, the loops over the states and the starts, and the row that ends with one of
--- them. Assumes nothing.
+-- The last commands of rows, all found at once: the loops over the states and the starts, and the row that ends with one of them. Assumes nothing.
 use mathlib.Core.Path.{◌≡◌, refl, sym, ap, ap₂, ◌∙◌, subst}
 use mathlib.Core.Bool.{Bool, true, false, not}
 use mathlib.Core.Logic.{⊎_elim}
-use mathlib.Core.List.{List, [], ◌∷◌, ◌++◌}
+use mathlib.Core.List.{List, [], ◌∷◌, ◌++◌, foldl}
 use Prim.Native.Nat.{ℕ, zero, suc, ◌+◌, ◌-◌, ◌*◌, ◌/◌, ◌%◌, ◌^◌, ◌≤◌, ◌<◌}
-use native.Mathlib.Nat.{le_of_suc-le-suc, eq-or-lt_of_le, not-suc-le-zero, mul_assoc, pow-suc, mod-lt}
+use native.Mathlib.Nat.{eq-or-lt_of_le, mul_assoc, pow-suc, mod-lt}
 use native.Mathlib.Numerals.{add-one}
 use native.Mathlib.Omega.{arith}
-use lib.Bits.{bit_and, bit_or}
 use lib.Count.{count_trailing_zeros}
 use lib.Dec.{T, eqb, eqb→eq, ltb→lt}
 use lib.ListN.{get_or}
@@ -16,105 +14,56 @@ use lib.Pow.{pow_pos}
 use Rattle.std.specs.Prelude.{Option, Some, None}
 use Rattle.std.specs.Option.{option_or}
 use Rattle.base.specs.Sets.{In, NoBitFrom}
+use Rattle.base.specs.Lists.{Each}
 use Rattle.base.specs.Tests.{pick, both, imp}
 use Rattle.base.specs.Bounded.{all}
-use Rattle.base.specs.Cardinality.{member}
-use Rattle.base.specs.Masks.{clear_from, without, lowest_in}
+use Rattle.base.specs.Cardinality.{member, present}
+use Rattle.base.specs.Masks.{clear_from}
 use Rattle.base.proofs.Tests.{T_true, eq_t, both_l, both_r, both_of, imp_use, imp_of, test_same}
 use Rattle.base.proofs.Bounded.{all_at, all_of}
-use Rattle.base.proofs.Masks.{member_in, in_member, not-member, in_zero, in_one, one_in, or_in, and_in, in_and, union_in, in_union, pick_in, in_pick, alone, nonzero_some, some_nonzero, some-state, below_clear, clear↔, half_member}
-use Rattle.base.proofs.Added.{one_more_member, one_more_other}
+use Rattle.base.proofs.Masks.{member_in, in_member, not-member, in_zero, in_one, one_in, union_in, in_union, pick_in, in_pick, alone, nonzero_some, some_nonzero, some-state, below_clear, clear↔}
 use Rattle.base.proofs.Trailing.{trailing_zeros_lowest}
 use Rattle.base.proofs.Visiting.{gathered, all_so_far, all_gathered, all_failed}
-use Rattle.base.proofs.Visits.{Left, left-next, left-none, left_less, low_same, member-low}
+use Rattle.base.proofs.Visits.{low_same, member-low}
 use Rattle.octets.specs.Le.{bytes_le}
 use Rattle.reversal.specs.Device.{Device}
 use Rattle.reversal.specs.Computed.Sets.{after, able, runs_back}
 use Rattle.states.specs.StateSets.{after_in, able_in}
 use Rattle.states.proofs.Laws.{in_limits_lem, after-limits, able-limits}
+use Rattle.states.proofs.Row.{row_below, each_below}
 use Rattle.checker.specs.Contract.{returns_in}
 use Rattle.finder.specs.Contract.{Passing, all_back, tries, lowest_row}
+use Rattle.finder.proofs.Passes.{passing_same, none_pass, either_not, all-commands, fails_on}
 
--- ---- the mask of the commands that pass
-pub passing_same : {m : ℕ} {f g : ℕ → Bool} {w : ℕ} → Passing m f w → ((c : ℕ) → c < m → f c ≡ g c) → Passing m g w
-passing_same p e = record { low = p.low; each = λ c l. p.each c l ∙ e c l }
-
-pub none_pass : (m : ℕ) {f : ℕ → Bool} → ((c : ℕ) → c < m → f c ≡ false) → Passing m f 0
-none_pass m e = record { low = λ s h. absurd (in_zero s h); each = λ c l. not-member 0 c (in_zero c) ∙ sym (e c l) }
-
-pub either_not : (a : Bool) {b : Bool} → b ≡ false → both a b ≡ false
-unfolding both
-either_not true e = e
-either_not false e = refl
-
--- one command more
-module _ (f : ℕ → Bool) (c w : ℕ) (p : Passing c f w) where
-  pub mark_yes : f c ≡ true → Passing (suc c) f (bit_or w (2 ^ c))
-  mark_yes t =
-      record {
-        low = λ s h. ⊎_elim (λ (i : In w s). omega (arith, p.low s i)) (λ (i : In (2 ^ c) s). omega (arith, one_in c s i)) (or_in w (2 ^ c) s h);
-        each = λ b l. ⊎_elim (λ (e : b ≡ c). rw e (one_more_member w c ∙ sym t))
-            (λ (h : b < c). one_more_other w c b (λ e. omega (arith, h, e)) ∙ p.each b h) (eq-or-lt_of_le (le_of_suc-le-suc l));
-      }
-
-  pub mark_no : f c ≡ false → Passing (suc c) f w
-  mark_no t =
-      record {
-        low = λ s h. omega (arith, p.low s h);
-        each = λ b l. ⊎_elim (λ (e : b ≡ c). rw e (not-member w c (λ h. omega (arith, p.low c h)) ∙ sym t)) (λ (h : b < c). p.each b h)
-            (eq-or-lt_of_le (le_of_suc-le-suc l));
-      }
-
--- those of a mask that pass
-pub pass_of : (m commands w : ℕ) {f : ℕ → Bool} → Passing m f w → Passing m (λ c. both (member commands c) (f c)) (bit_and commands w)
-pass_of m commands w {f} p =
-    record {
-      low = λ s h. p.low s (and_in commands w s h).1;
-      each = λ c l. test_same (member (bit_and commands w) c) (both (member commands c) (f c))
-          (λ t. let (i, j) = and_in commands w c (member_in (bit_and commands w) c t) in
-          both_of (member commands c) (f c) (in_member commands c i) (subst T (p.each c l) (in_member w c j)))
-          (λ t. in_member (bit_and commands w) c (in_and commands w c (member_in commands c (both_l (member commands c) (f c) t))
-          (member_in w c (subst T (sym (p.each c l)) (both_r (member commands c) (f c) t)))));
-    }
-
--- all commands
-pub all-commands : (m c : ℕ) → c < m → member (2 ^ m - 1) c ≡ true
-unfolding member
-all-commands zero c l = absurd (not-suc-le-zero l)
-all-commands (suc m) zero l = let e : (2 ^ suc m - 1) / 2 ^ 0 % 2 ≡ 1 = omega (arith, pow-suc 2 m, pow_pos m) in rw e
-all-commands (suc m) (suc c) l =
-    let e : (2 ^ suc m - 1) / 2 ≡ 2 ^ m - 1 = omega (arith, pow-suc 2 m, pow_pos m) in
-    half_member (2 ^ suc m - 1) c ∙ ap (λ (w : ℕ). member w c) e ∙ all-commands m c (le_of_suc-le-suc l)
-
--- ---- a loop over states: the commands that pass so far, which with the states that are left give those of the whole
+-- ---- a loop over states: the commands that pass so far, which with the states to come give those of the whole
 module _ (g : ℕ → ℕ → Bool) (n m : ℕ) where
-  pub record Asking (whole : ℕ → Bool) (commands rest : ℕ) : Type 0 where
-    pub rest-low : rest < 2 ^ n
+  pub record Asking (whole : ℕ → Bool) (commands : ℕ) (states : List ℕ) : Type 0 where
+    pub below : Each (λ s. s < n) states
     pub low : NoBitFrom m commands
-    pub each : (c : ℕ) → c < m → gathered (all_so_far (g c)) n (member commands c) rest ≡ whole c
+    pub each : (c : ℕ) → c < m → foldl (all_so_far (g c)) (member commands c) states ≡ whole c
 
-  module _ (few : n ≤ 64) (whole : ℕ → Bool) (commands rest : ℕ) (a : Asking whole commands rest) where
-    at : (c : ℕ) → c < m → Left (all_so_far (g c)) n (whole c) (member commands c) rest
-    at c l = record { low = a.rest-low; gives = a.each c l }
+  pub ask_first : (w commands : ℕ) {whole : ℕ → Bool} → n ≤ 64 → NoBitFrom m commands
+      → ((c : ℕ) → c < m → gathered (all_so_far (g c)) n (member commands c) w ≡ whole c) → Asking whole commands (present 64 (w % 2 ^ n))
+  ask_first w commands few low e = rw (row_below n w few) (record { below = each_below n w; low = low; each = e })
 
-    pub ask_next : (rest ≡ 0 → ⊥) → (s rest' : ℕ) → s ≡ lowest_in rest → rest' ≡ without rest (lowest_in rest)
-        → (commands' : ℕ) → Passing m (λ c. both (member commands c) (g c s)) commands' → Asking whole commands' rest'
-    ask_next some s rest' e off commands' p =
+  module _ (whole : ℕ → Bool) (commands : ℕ) (states : List ℕ) (a : Asking whole commands states) where
+    pub ask_next : (s : ℕ) (states' : List ℕ) → states ≡ s ∷ states' → (commands' : ℕ) → Passing m (λ c. both (member commands c) (g c s)) commands'
+        → Asking whole commands' states'
+    ask_next s states' split commands' p =
         record {
-          rest-low = omega (arith, a.rest-low, left_less n rest few a.rest-low some rest' off);
+          below = (rw split at a.below).1;
           low = p.low;
-          each = λ c l. ap (λ (b : Bool). gathered (all_so_far (g c)) n b rest') (p.each c l)
-              ∙ (left-next (all_so_far (g c)) n (whole c) (member commands c) rest (at c l) few some s rest' e off).gives;
+          each = λ c l. ap (λ (b : Bool). foldl (all_so_far (g c)) b states') (p.each c l) ∙ (rw split at (a.each c l));
         }
 
-    pub ask_end : rest ≡ 0 → Passing m whole commands
-    ask_end z = record { low = a.low; each = λ c l. left-none (all_so_far (g c)) n (whole c) (member commands c) rest (at c l) few z }
+    pub ask_end : states ≡ [] → Passing m whole commands
+    ask_end z = record { low = a.low; each = λ c l. rw z at (a.each c l) }
 
     -- no command is left
     pub ask_none : commands ≡ 0 → Passing m whole 0
     ask_none z =
         none_pass m (λ c l. sym (a.each c l)
-        ∙ ap (λ (b : Bool). gathered (all_so_far (g c)) n b rest) (ap (λ (w : ℕ). member w c) z ∙ not-member 0 c (in_zero c)) ∙ all_failed (g c) n rest)
+        ∙ ap (λ (b : Bool). foldl (all_so_far (g c)) b states) (ap (λ (w : ℕ). member w c) z ∙ not-member 0 c (in_zero c)) ∙ fails_on (g c) states)
 
 -- ---- one command: the set is brought back by it where the set has a state, and each leads to the start alone
 module _ (d : Device) (S : ℕ) where
@@ -174,12 +123,13 @@ module _ (d : Device) (S : ℕ) where
   abbrev pub whole_from : ℕ → ℕ → ℕ → Bool
   whole_from commands rest c = gathered (all_so_far (to_start c)) d.n (member commands c) rest
 
-  abbrev pass_from : ℕ → ℕ → ℕ → Bool
+  abbrev pub pass_from : ℕ → ℕ → ℕ → Bool
   pass_from commands set c = both (member commands c) (runs_back d set (c ∷ []) S)
 
   module _ (m commands set rest : ℕ) (e : rest ≡ set % 2 ^ d.n) where
-    pub from_start : NoBitFrom m commands → Asking to_start d.n m (whole_from commands rest) commands rest
-    from_start low = record { rest-low = rw e (mod-lt set (pow_pos d.n)); low = low; each = λ c l. refl }
+    pub from_start : d.n ≤ 64 → NoBitFrom m commands → Asking to_start d.n m (whole_from commands rest) commands (present 64 rest)
+    from_start few low =
+        rw e (ask_first to_start d.n m set commands few low (λ c l. sym (low_same (all_so_far (to_start c)) d.n (member commands c) set)))
 
     pub from_empty : rest ≡ 0 → Passing m (pass_from commands set) 0
     from_empty z = none_pass m (λ c l. either_not (member commands c) (empty_out set c (sym e ∙ z)))
@@ -234,15 +184,11 @@ module _ (d : Device) (kept row : List ℕ) where
   abbrev pub whole_back : ℕ → ℕ → Bool
   whole_back starts c = all_back d kept starts (row ++ (c ∷ []))
 
-  pub starts-start : (m commands starts : ℕ) → commands ≡ 2 ^ m - 1 → starts < 2 ^ d.n → Asking back_by d.n m (whole_back starts) commands starts
+  pub starts_first : (m commands used : ℕ) → d.n ≤ 64 → commands ≡ 2 ^ m - 1 → Asking back_by d.n m (whole_back used) commands (present 64 (used % 2 ^ d.n))
   unfolding all_back
-  starts-start m commands starts e low =
-      record {
-        rest-low = low;
-        low = below_clear m commands (omega (arith, e, pow_pos m));
-        each = λ c l. ap (λ (b : Bool). gathered (all_so_far (back_by c)) d.n b starts) (ap (λ (w : ℕ). member w c) e ∙ all-commands m c l)
-            ∙ all_gathered (back_by c) d.n starts;
-      }
+  starts_first m commands used few e =
+      ask_first back_by d.n m used commands few (below_clear m commands (omega (arith, e, pow_pos m)))
+      (λ c l. ap (λ (b : Bool). gathered (all_so_far (back_by c)) d.n b used) (ap (λ (w : ℕ). member w c) e ∙ all-commands m c l) ∙ all_gathered (back_by c) d.n used)
 
 -- ---- a row that ends with one more command
 shifted : (row p : ℕ) → ((row + p * 256) % 256 ≡ row % 256) × ((row + p * 256) / 256 ≡ row / 256 + p)

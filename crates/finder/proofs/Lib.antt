@@ -1,8 +1,1 @@
-pub mod Kept
-pub mod Trying
-pub mod Last
-pub mod Rows
-pub mod Exactly
-pub mod Unique
-pub mod Ways
-pub mod Cases
+pub mod Passes

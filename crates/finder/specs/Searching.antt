@@ -8,8 +8,8 @@ use Rattle.finder.specs.Finds.{refusal}
 use Rattle.finder.specs.Contract.{answer}
 
 -- the device that is lent
-abbrev pub device : InLimits → Device
-device d = tabled d.n d.m d.table.now
+abbrev pub lent : InLimits → Device
+lent it = tabled it.device.n it.device.m it.device.table.now
 
 -- the answer with the row that was found, or that there is none
 abbrev pub found_with : Option Row → Found

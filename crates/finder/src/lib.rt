@@ -13,8 +13,8 @@ ghost use Rattle.book.specs.Faults.{code_of};
 ghost use Rattle.finder.specs.Finds.{refusal, sought};
 ghost use Rattle.finder.specs.Contract.{answer, holds, EndsKept, all_back, Passing, lowest_row, shortest_row, FindAs};
 
-use book::{Fault, FaultAt};
-use states::StateSet;
+use book::Fault;
+use states::{StateSet, Tabled};
 use std::marker::Model;
 
 // The longest reverse that is looked for.
@@ -30,14 +30,14 @@ pub struct Found {
     pub commands: [u8; 3],
 }
 
-// A refusal, whose count and commands are 0.
-impl From<FaultAt> for Found {
-    ghost from_gives = { λ at found. found ≡ refusal (code_of at.fault) at.place };
+// What can't be found is refused at no place of the book's; count and commands are 0.
+impl From<Fault> for Found {
+    ghost from_gives = { λ fault found. found ≡ refusal (code_of fault) 0 };
 
-    fn from(at: FaultAt) -> Found {
+    fn from(fault: Fault) -> Found {
         Found {
-            code: u64::from(at.fault),
-            place: at.place,
+            code: fault.into(),
+            place: 0,
             count: 0,
             commands: [0; 3],
         }
@@ -111,62 +111,49 @@ impl Sought<'_> {
 // A device of at most 64 states and 32 commands, by its table.
 #[derive(Clone, Copy)]
 struct InLimits<'a> {
-    book: &'a [u8],
-    table: &'a [u64],
-    n: u64,
-    m: u64,
-    ghost states: { n ≤ 64 },
-    ghost commands: { m ≤ 32 },
+    device: Tabled<'a>,
+    ghost states: { device.n ≤ 64 },
+    ghost commands: { device.m ≤ 32 },
 }
 
 impl InLimits<'_> {
-    ghost use Rattle.finder.specs.Searching.{device};
+    ghost use Rattle.finder.specs.Searching.{lent};
 
     // The ends in phi that the forward commands lead to from a start.
     fn ends_of(&self, start: u64, sought: &Sought) -> StateSet
         requires { start < 64 }
-        ensures { result ≡ set_of (ends (device self.now) sought.now.forward sought.now.phi start) }
+        ensures { result ≡ set_of (ends (lent self.now) sought.now.forward sought.now.phi start) }
     {
         let mut ends = StateSet::of(0).add(start);
         for command in sought.forward {
-            ends = ends.after(
-                self.book,
-                self.table,
-                true,
-                self.n,
-                self.m,
-                u64::from(*command),
-            );
+            ends = ends.after(&self.device, u64::from(*command));
         }
         ends.within(sought.phi)
     }
 
     // Stores the ends of each start in psi that has some, at the start's own number, and gives these starts. Each start's forward commands are run once.
     fn keep_ends(&self, sought: &Sought, ends: &mut [u64; 64]) -> StateSet
-        ensures { EndsKept (device self.now) sought.now ends.new result.mask }
+        ensures { EndsKept (lent self.now) sought.now ends.new result.mask }
     {
         let mut used = StateSet::of(0);
-        let mut starts = StateSet::of(sought.psi).below(self.n);
-        'starts: while !starts.is_empty() {
-            let start = starts.lowest();
+        for start in StateSet::of(sought.psi).below(self.device.n) {
             let set = self.ends_of(start, sought);
             if !set.is_empty() {
                 ends[start as usize] = set.mask;
                 used = used.add(start);
             }
-            starts = starts.without_lowest();
         }
         used
     }
 
     // The commands that lead from the state to the goal alone, as a mask. `bit` is that of c: doubling it takes less time than a shift by c.
     fn only_to(&self, state: u64, goal: u64) -> u64
-        ensures { Passing self.now.m (λ c. eqb ((device self.now).outcomes state c) goal) result }
+        ensures { Passing self.now.device.m (λ c. eqb ((lent self.now).outcomes state c) goal) result }
     {
         let mut found = 0;
         let mut bit = 1;
-        for c in 0..self.m {
-            if states::outcomes(self.book, self.table, true, self.n, self.m, state, c) == goal {
+        for c in 0..self.device.m {
+            if states::outcomes(&self.device, state, c) == goal {
                 found |= bit;
             }
             bit *= 2;
@@ -177,22 +164,21 @@ impl InLimits<'_> {
     // Of the commands, those that bring the set back to the start: there is a state in the set, and each leads to the start alone.
     fn last_from(&self, set: StateSet, start: u64, commands: u64) -> u64
         requires start { start < 64 }
-        requires commands { NoBitFrom self.now.m commands }
-        ensures { Passing self.now.m (λ c. both (member commands c)
-            (runs_back (device self.now) set.mask (c ∷ []) start)) result }
+        requires commands { NoBitFrom self.now.device.m commands }
+        ensures { Passing self.now.device.m (λ c. both (member commands c)
+            (runs_back (lent self.now) set.mask (c ∷ []) start)) result }
     {
         let goal = StateSet::of(0).add(start);
-        let mut rest = set.below(self.n);
+        let rest = set.below(self.device.n);
         if rest.is_empty() {
             return 0;
         }
         let mut left = commands;
-        'rest: while !rest.is_empty() {
-            left &= self.only_to(rest.lowest(), goal.mask);
+        for state in rest {
+            left &= self.only_to(state, goal.mask);
             if left == 0 {
                 return 0;
             }
-            rest = rest.without_lowest();
         }
         left
     }
@@ -200,18 +186,17 @@ impl InLimits<'_> {
     // Of the commands, those that, sent after a row, bring the set back to the start.
     fn last_behind(&self, set: StateSet, row: Row, start: u64, commands: u64) -> u64
         requires start { start < 64 }
-        requires commands { NoBitFrom self.now.m commands }
-        ensures { Passing self.now.m (λ c. both (member commands c)
-            (runs_back (device self.now) set.mask (bytes_le row.count row.number ++ (c ∷ [])) start)) result }
+        requires commands { NoBitFrom self.now.device.m commands }
+        ensures { Passing self.now.device.m (λ c. both (member commands c)
+            (runs_back (lent self.now) set.mask (bytes_le row.count row.number ++ (c ∷ [])) start)) result }
     {
         let mut at = set;
         let mut rest = row.number;
         for j in 0..row.count {
-            let sent = at.sent(self.book, self.table, true, self.n, self.m, rest % 256);
-            if !sent.able {
+            let Some(next) = at.sent(&self.device, rest % 256) else {
                 return 0;
-            }
-            at = sent.set;
+            };
+            at = next;
             rest /= 256;
         }
         self.last_from(at, start, commands)
@@ -221,48 +206,42 @@ impl InLimits<'_> {
 // What rows of commands are tried on: the starts of a device that are used, and the ends of each at its own number.
 #[derive(Clone, Copy)]
 struct Search<'a> {
-    device: InLimits<'a>,
+    within: InLimits<'a>,
     ends: &'a [u64; 64],
     used: StateSet,
 }
 
 impl Search<'_> {
-    ghost use Rattle.finder.specs.Searching.{device, found_with};
+    ghost use Rattle.finder.specs.Searching.{lent, found_with};
 
     // Whether the row brings every start that is used back from its ends.
     fn comes_back(&self, row: Row) -> bool
-        ensures { result ≡ all_back (device self.now.device) self.now.ends.now self.now.used.mask (bytes_le row.count row.number) }
+        ensures { result ≡ all_back (lent self.now.within) self.now.ends.now self.now.used.mask
+            (bytes_le row.count row.number) }
     {
-        let d = self.device;
-        let mut starts = self.used.below(d.n);
-        'starts: while !starts.is_empty() {
-            let start = starts.lowest();
+        let device = self.within.device;
+        for start in self.used.below(device.n) {
             let set = StateSet::of(self.ends[start as usize]);
-            if !checker::returns(
-                set, d.book, d.table, true, d.n, d.m, row.number, row.count, start,
-            ) {
+            if !checker::returns(set, &device, row.number, row.count, start) {
                 return false;
             }
-            starts = starts.without_lowest();
         }
         true
     }
 
     // The commands that, sent after a row, bring every start that is used back from its ends.
     fn last_commands(&self, row: Row) -> u64
-        ensures { Passing self.now.device.m (λ c. all_back (device self.now.device) self.now.ends.now self.now.used.mask
+        ensures { Passing self.now.within.device.m (λ c. all_back (lent self.now.within) self.now.ends.now self.now.used.mask
             (bytes_le row.count row.number ++ (c ∷ []))) result }
     {
-        let mut commands = (1 << self.device.m) - 1;
-        let mut starts = self.used.below(self.device.n);
-        'starts: while !starts.is_empty() {
-            let start = starts.lowest();
+        let device = self.within.device;
+        let mut commands = (1 << device.m) - 1;
+        for start in self.used.below(device.n) {
             let set = StateSet::of(self.ends[start as usize]);
-            commands = self.device.last_behind(set, row, start, commands);
+            commands = self.within.last_behind(set, row, start, commands);
             if commands == 0 {
                 return 0;
             }
-            starts = starts.without_lowest();
         }
         commands
     }
@@ -272,8 +251,8 @@ impl Search<'_> {
     fn lowest_row(&self, row: Row, left: usize) -> Option<u64>
         requires short { row.count + left ≤ 3 }
         requires below { row.number < 256 ^ row.count }
-        ensures { result ≡ lowest_row (λ number. all_back (device self.now.device) self.now.ends.now self.now.used.mask
-            (bytes_le (row.count + left) number)) self.now.device.m left (256 ^ row.count) row.number }
+        ensures { result ≡ lowest_row (λ number. all_back (lent self.now.within) self.now.ends.now self.now.used.mask
+            (bytes_le (row.count + left) number)) self.now.within.device.m left (256 ^ row.count) row.number }
     {
         if left == 0 {
             return if self.comes_back(row) {
@@ -289,7 +268,7 @@ impl Search<'_> {
             }
             return Some(row.with(u64::trailing_zeros(last) as u64).number);
         }
-        for c in 0..self.device.m {
+        for c in 0..self.within.device.m {
             if let Some(number) = self.lowest_row(row.with(c), left - 1) {
                 return Some(number);
             }
@@ -299,8 +278,8 @@ impl Search<'_> {
 
     // Rows of no command, of one, of two and of three, until one is found.
     fn shortest_row(&self) -> Option<Row>
-        ensures { found_with result ≡ shortest_row (λ count number. all_back (device self.now.device) self.now.ends.now self.now.used.mask
-            (bytes_le count number)) self.now.device.m 0 4 }
+        ensures { found_with result ≡ shortest_row (λ count number. all_back (lent self.now.within) self.now.ends.now self.now.used.mask
+            (bytes_le count number)) self.now.within.device.m 0 4 }
     {
         for count in 0..=MOST {
             if let Some(number) = self.lowest_row(
@@ -334,36 +313,27 @@ pub fn find(book: &[u8], forward: &[u8], phi: u64, psi: u64, table: &mut [u64]) 
     }
     let sought = Sought { forward, phi, psi };
     if !sought.may_be_held(checked.n, checked.m) {
-        return Found::from(FaultAt {
-            fault: Fault::NoItem,
-            place: 0,
-        });
+        return Found::from(Fault::NoItem);
     }
-    let device = InLimits {
-        book,
-        table,
-        n: checked.n,
-        m: checked.m,
+    let within = InLimits {
+        device: Tabled {
+            table,
+            n: checked.n,
+            m: checked.m,
+        },
     };
     let mut ends = [0; 64];
-    let used = device.keep_ends(&sought, &mut ends);
+    let used = within.keep_ends(&sought, &mut ends);
     if used.is_empty() {
-        return Found::from(FaultAt {
-            fault: Fault::NoReverse,
-            place: 0,
-        });
+        return Found::from(Fault::NoReverse);
     }
-    match (Search {
-        device,
+    let search = Search {
+        within,
         ends: &ends,
         used,
-    })
-    .shortest_row()
-    {
+    };
+    match search.shortest_row() {
         Some(row) => Found::from(row),
-        None => Found::from(FaultAt {
-            fault: Fault::NoReverse,
-            place: 0,
-        }),
+        None => Found::from(Fault::NoReverse),
     }
 }

@@ -2,7 +2,7 @@
 use mathlib.Core.Path.{refl, ap, ◌∙◌}
 use Rattle.states.specs.StateSets.{set_of}
 use Rattle.states.proofs.Laws.{mask_of}
-use Rattle.finder.specs.Searching.{device}
+use Rattle.finder.specs.Searching.{lent}
 use Rattle.finder.proofs.Kept.{lead_start, lead_next, lead_all}
 use Rattle.finder.proofs.InLimits.ends_of.Goals as goal
 
@@ -18,4 +18,4 @@ pub returns : goal.returns
 returns c =
     rw (← c.sought.view_is)
     (c.within.ensures
-    ∙ ap set_of (lead_all (device c.args.self.now) c.args.start c.sought.inside.forward.now _ _ _ _ c.loop-command-test.false c.loop-command.invariant refl))
+    ∙ ap set_of (lead_all (lent c.args.self.now) c.args.start c.sought.inside.forward.now _ _ _ _ c.loop-command-test.false c.loop-command.invariant refl))

@@ -8,8 +8,8 @@ use lib.Dec.{eqb}
 use borrow.Author.Tests.{eq-eqb, ne_eqb}
 use Rattle.states.proofs.Laws.{outcomes-limits}
 use Rattle.finder.specs.Contract.{Passing}
-use Rattle.finder.specs.Searching.{device}
-use Rattle.finder.proofs.Last.{mark_yes, mark_no}
+use Rattle.finder.specs.Searching.{lent}
+use Rattle.finder.proofs.Passes.{mark_yes, mark_no}
 use Rattle.finder.proofs.InLimits.only_to.Goals as goal
 use Rattle.finder.proofs.InLimits.only_to.Goals.{then-outcomes-goal, else-outcomes-goal}
 
@@ -17,7 +17,7 @@ pub loop-c-preserved : goal.loop-c-preserved
 loop-c-preserved c =
     let l = c.loop-c in
     let a = c.args in
-    let d = device a.self.now in
+    let d = lent a.self.now in
     let f = λ (x : ℕ). eqb (d.outcomes a.state x) a.goal in
     let here : f l.c ≡ eqb c.outcomes.result a.goal
     = ap (λ (x : ℕ). eqb x a.goal) (sym (c.outcomes.ensures ∙ outcomes-limits d a.state l.c a.self.now.states a.self.now.commands)) in

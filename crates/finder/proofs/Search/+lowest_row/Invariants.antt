@@ -2,7 +2,7 @@
 use Rattle.std.proofs.Common.{◌+◌, ◌^◌}
 use Rattle.octets.specs.Le.{bytes_le}
 use Rattle.finder.specs.Contract.{all_back}
-use Rattle.finder.specs.Searching.{device}
+use Rattle.finder.specs.Searching.{lent}
 use Rattle.finder.proofs.Trying.{Trying}
 use Rattle.finder.proofs.Search.+lowest_row.Given as goal
 
@@ -11,5 +11,5 @@ decreases-lowest_row l = l.left
 
 abbrev pub invariant-loop-c : goal.invariant-loop-c
 invariant-loop-c l =
-    let d = device l.self.device in
+    let d = lent l.self.within in
     Trying (λ number. all_back d l.self.ends.now l.self.used.mask (bytes_le (l.row.count + l.left) number)) d.m l.left (256 ^ l.row.count) l.row.number l.c

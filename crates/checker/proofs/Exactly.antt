@@ -9,6 +9,7 @@ use native.Mathlib.Omega.{arith}
 use native.Mathlib.Decide.{dec_lt}
 use lib.Dec.{T}
 use lib.ListN.{length, take}
+use Rattle.std.specs.Prelude.{Result}
 use Rattle.base.specs.Sets.{NoBitFrom}
 use Rattle.base.specs.Lists.{Each, Bytes}
 use Rattle.base.specs.Tests.{pick, both}
@@ -41,20 +42,22 @@ use Rattle.reader.proofs.Ways.{when_faulty, when_fine}
 use Rattle.reader.proofs.Exactly.{filled}
 use Rattle.checker.specs.declared.Reason.TheVariants.{NoReversePlan, NotEffective}
 use Rattle.checker.specs.declared.Checking.{Checking}
-use Rattle.checker.specs.declared.Judgement.{Judgement}
+use Rattle.checker.specs.declared.Rejected.{Rejected}
 use Rattle.checker.specs.Reasons.{code_of, Due}
 use Rattle.checker.specs.Checks.{AllAccepted, place_of, WrongFor, UnitsMade, with_units, Checks, unread, wrong, fine}
 use Rattle.checker.specs.Contract.{wrong_item, reason_for, reason_in, judgement_of, units_of, on_judgement, judged_by, check_by, CheckingOf, CheckAs}
-use Rattle.checker.proofs.Judging.{one-wrong, all-accepted as none-turned-down}
+use Rattle.checker.proofs.Judging.{fault-code, one-wrong, all-accepted as none-turned-down}
 
 -- ---- the judgement of a book, by its test
 module _ (b : Book) where
   pub by_wrong : wrong_item b < length (items_of b) → {A : Type 0} (refuse : ℕ → ℕ → A) (found : A)
       → on_judgement (judgement_of b) refuse found ≡ refuse (code_of (reason_in b)) (place_of b (wrong_item b))
-  by_wrong h refuse found = ap (λ (j : Judgement). on_judgement j refuse found) (one-wrong b h)
+  by_wrong h refuse found =
+      ap (λ (j : Result ℕ Rejected). on_judgement j refuse found) (one-wrong b h)
+      ∙ ap (λ (code : ℕ). refuse code (place_of b (wrong_item b))) (fault-code (reason_in b))
 
   pub by_none : length (items_of b) ≤ wrong_item b → {A : Type 0} (refuse : ℕ → ℕ → A) (found : A) → on_judgement (judgement_of b) refuse found ≡ found
-  by_none h refuse found = ap (λ (j : Judgement). on_judgement j refuse found) (none-turned-down b h)
+  by_none h refuse found = ap (λ (j : Result ℕ Rejected). on_judgement j refuse found) (none-turned-down b h)
 
 -- ---- by trajectories
 module _ (d : Device) (proper : Proper d) (x : Item) (starts : NoBitFrom d.n x.psi) where

@@ -1,5 +1,5 @@
 -- The judgement of a book's items: the loop over them, the units made, and the place of a record. Assumes nothing.
-use mathlib.Core.Path.{◌≡◌, refl, sym, ap, ap₂, ◌∙◌}
+use mathlib.Core.Path.{◌≡◌, refl, sym, ap, ◌∙◌}
 use mathlib.Core.Bool.{Bool, true, false, not}
 use mathlib.Core.List.{List, [], ◌∷◌, ◌++◌, map}
 use Prim.Native.Nat.{ℕ, suc, ◌+◌, ◌-◌, ◌≤◌, ◌<◌}
@@ -7,8 +7,10 @@ use native.Mathlib.Numerals.{add-one}
 use native.Mathlib.Omega.{arith}
 use lib.ListN.{length, take, drop, length-append, length-drop, take-append-drop, drop_of_length-le}
 use lib.Seq.{drop-cons}
+use Rattle.std.specs.Prelude.{Result, Ok, Err}
 use Rattle.base.specs.Tests.{pick, both}
 use Rattle.base.specs.Bounded.{seek}
+use Rattle.base.specs.Compare.{less}
 use Rattle.base.proofs.Picks.{less_yes, less_no}
 use Rattle.reversal.specs.Device.{Device}
 use Rattle.reversal.specs.Reversal.{Item}
@@ -23,11 +25,13 @@ use Rattle.items.proofs.Laws.{in_book}
 use Rattle.items.proofs.Walk.{one_more, all_passed}
 use Rattle.checker.specs.declared.Reason.{Reason}
 use Rattle.checker.specs.declared.Reason.TheVariants.{NoReversePlan, NotEffective}
-use Rattle.checker.specs.declared.Judgement.{Judgement}
-use Rattle.checker.specs.declared.Judgement.TheVariants.{AllAccepted, Wrong}
-use Rattle.checker.specs.declared.JudgementMade.{JudgementMade}
-use Rattle.checker.specs.Checks.{place_of}
-use Rattle.checker.specs.Contract.{wrong_item, reason_for, reason_in, judgement_of, units_of}
+use Rattle.checker.specs.declared.Rejected.{Rejected}
+use Rattle.book.specs.Faults as faults
+use Rattle.checker.specs.Reasons.{code_of, fault_of}
+use Rattle.reader.specs.declared.Reading.{Reading}
+use Rattle.reader.specs.Reads.{refusal}
+use Rattle.checker.specs.Checks.{place_of, with_units}
+use Rattle.checker.specs.Contract.{wrong_item, reason_for, reason_in, judgement_of, units_of, wrong_for, on_judgement, answer_of}
 
 -- ---- the place of a record: what stands before it is the book with the items before it
 sizes : (xs ys : List Item) → length (framed (map item_rec (xs ++ ys))) ≡ length (framed (map item_rec xs)) + length (framed (map item_rec ys))
@@ -52,15 +56,37 @@ place_is {s} {b} {i} {at} h =
       ap length h.begins,
     )
 
+-- ---- the code of a wrong item's fault
+pub fault-code : (why : Reason) → faults.code_of (fault_of why) ≡ code_of why
+fault-code NoReversePlan = refl
+fault-code NotEffective = refl
+
 -- ---- the answer for a book, by its first wrong item
 module _ (b : Book) where
-  pub all-accepted : length (items_of b) ≤ wrong_item b → judgement_of b ≡ AllAccepted
+  pub all-accepted : length (items_of b) ≤ wrong_item b → judgement_of b ≡ Ok (units_of b)
   unfolding judgement_of
-  all-accepted l = sym (less_no AllAccepted _ AllAccepted (wrong_item b) (length (items_of b)) l refl)
+  all-accepted l = sym (less_no (Ok (units_of b)) _ (Ok (units_of b)) (wrong_item b) (length (items_of b)) l refl)
 
-  pub one-wrong : wrong_item b < length (items_of b) → judgement_of b ≡ Wrong (place_of b (wrong_item b)) (reason_in b)
+  -- the judgement with a wrong item
+  abbrev pub turned_down : ℕ → Reason → ℕ → Result ℕ Rejected
+  turned_down place why units = Err (wrong_for place why units)
+
+  pub one-wrong : wrong_item b < length (items_of b) → judgement_of b ≡ turned_down (place_of b (wrong_item b)) (reason_in b) (units_of b)
   unfolding judgement_of
-  one-wrong l = sym (less_yes (Wrong (place_of b (wrong_item b)) (reason_in b)) _ AllAccepted (wrong_item b) (length (items_of b)) l refl)
+  one-wrong l =
+      sym (less_yes (turned_down (place_of b (wrong_item b)) (reason_in b) (units_of b)) _ (Ok (units_of b)) (wrong_item b) (length (items_of b)) l refl)
+
+  -- the answer with it has the units of the judgement
+  pub answer_by : (found : Reading) → answer_of found (judgement_of b) ≡ with_units (on_judgement (judgement_of b) refusal found) (units_of b)
+  unfolding judgement_of pick
+  answer_by found = go (less (wrong_item b) (length (items_of b)))
+    where
+      answer : Bool → Result ℕ Rejected
+      answer t = pick t (turned_down (place_of b (wrong_item b)) (reason_in b) (units_of b)) (Ok (units_of b))
+
+      go : (t : Bool) → answer_of found (answer t) ≡ with_units (on_judgement (answer t) refusal found) (units_of b)
+      go true = refl
+      go false = refl
 
 -- ---- one item, by both rules
 module _ (d : Device) (x : Item) where
@@ -83,10 +109,6 @@ module _ (d : Device) (x : Item) where
 -- ---- the loop over items
 abbrev pub wrong_at : Device → Book → ℕ → Bool
 wrong_at d b i = not (accepts d (item (items_of b) i))
-
--- a judgement with its units
-abbrev pub judging : Judgement → ℕ → JudgementMade
-judging found units = record { found = found; units = units }
 
 -- the walk stands at an item's record, or past the last: what is left to judge gives the whole, and so do the units
 pub record Walking (d : Device) (s : List ℕ) (b : Book) (at units : ℕ) : Type 0 where
@@ -134,7 +156,7 @@ module _ (d : Device) (s : List ℕ) (b : Book) where
           }
 
     module _ (device : d ≡ device_of b) where
-      pub none-wrong : length s ≤ at → judging AllAccepted units ≡ judging (judgement_of b) (units_of b)
+      pub none-wrong : length s ≤ at → Ok units ≡ judgement_of b
       unfolding wrong_item seek items_made
       none-wrong h =
           let all = all_passed a e w.known w.here h in
@@ -143,10 +165,10 @@ module _ (d : Device) (s : List ℕ) (b : Book) where
           let past : length (items_of b) ≤ w.number = omega arith in
           let none : drop w.number (items_of b) ≡ [] = drop_of_length-le (items_of b) past in
           let c : units + 0 ≡ units_of b = rw (none, device) at w.count in
-          ap₂ judging (sym (all-accepted b (omega arith))) (omega arith)
+          let u : units ≡ units_of b = omega arith in ap Ok u ∙ sym (all-accepted b (omega arith))
 
       pub found : (h : at < length s) (why : Reason) → TurnedDown d x why → (units' : ℕ) → units' ≡ units + item_made d x
-          → judging (Wrong at why) units' ≡ judging (judgement_of b) (units_of b)
+          → Err (wrong_for at why units') ≡ judgement_of b
       unfolding wrong_item seek pick
       found h why (f, r) units' u =
           let l : length (items_of b) - w.number ≡ suc (length (items_of b) - (w.number + 1)) = omega (arith, (stands h).known) in
@@ -154,4 +176,6 @@ module _ (d : Device) (s : List ℕ) (b : Book) where
           let here : reason_in b ≡ why = rw (← i, ← device) r in
           let g : units + (item_made d x + 0) ≡ items_made d (items_of b) = rw f at (this_item h) in
           let c : items_made d (items_of b) ≡ units_of b = ap (λ (y : Device). items_made y (items_of b)) device in
-          ap₂ judging (ap₂ Wrong (place_is (stands h) ∙ ap (place_of b) i) (sym here) ∙ sym (one-wrong b (omega (arith, (stands h).known)))) (omega arith)
+          let q : units' ≡ units_of b = omega arith in
+          let p : at ≡ place_of b (wrong_item b) = place_is (stands h) ∙ ap (place_of b) i in
+          rw (q, p, ← here) (sym (one-wrong b (omega (arith, (stands h).known))))

@@ -4,6 +4,7 @@ use mathlib.Core.List.{List}
 use Prim.Native.Nat.{ℕ, ◌≤◌}
 use native.Mathlib.Omega.{arith}
 use lib.ListN.{length}
+use Rattle.std.specs.Prelude.{Result}
 use Rattle.base.specs.Sizes.{LongEnough}
 use Rattle.base.proofs.Sizes.{long_or_not}
 use Rattle.reversal.specs.Device.{Device, tabled}
@@ -19,8 +20,10 @@ use Rattle.reader.specs.Contract.{ReadingOf, ReadAs}
 use Rattle.reader.proofs.Ways.{when_faulty, when_fine}
 use Rattle.reader.proofs.Exactly.{BookFound, book-found, fault_found}
 use Rattle.checker.specs.declared.Checking.{Checking}
+use Rattle.checker.specs.declared.Rejected.{Rejected}
 use Rattle.checker.specs.Checks.{with_units}
-use Rattle.checker.specs.Contract.{JudgedAs, judgement_of, units_of, on_judgement, judged_by, check_by, CheckingOf, CheckAs, CheckSmallAs}
+use Rattle.checker.proofs.Judging.{answer_by}
+use Rattle.checker.specs.Contract.{JudgedAs, units_of, answer_of, judged_by, check_by, CheckingOf, CheckAs, CheckSmallAs}
 
 -- ---- of the bytes alone
 module _ {s : List ℕ} {q : Reading} (c : ReadingOf s q) where
@@ -48,14 +51,15 @@ module _ {s : List ℕ} {q : Reading} (c : ReadingOf s q) where
     )
 
     -- what it answers, of the book's device, is the answer
-    pub judged_of : {d : Device} → d ≡ device_of g.book → {x : Checking} → JudgedAs s d q x → CheckingOf s x
+    pub judged_of : {d : Device} → d ≡ device_of g.book → {r : Result ℕ Rejected} → JudgedAs s d r → {x : Checking} → x ≡ answer_of q r → CheckingOf s x
     unfolding check_by
-    judged_of same h =
+    judged_of same h e =
         record {
           bytes = c.bytes;
           result =
-              h g.book g.allowed g.bytes same
-              ∙ ap (λ (y : Reading). with_units (on_judgement (judgement_of g.book) refusal y) (units_of g.book)) g.result
+              e
+              ∙ ap₂ answer_of g.result (h g.book g.allowed g.bytes same)
+              ∙ answer_by g.book (done g.book)
               ∙ ap₂ with_units (sym (when_fine s refusal (judged_by refusal done) g.parsed)) (sym (when_fine s (λ code place. 0) units_of g.parsed));
         }
 
@@ -85,11 +89,11 @@ module _ {s : List ℕ} {l : Lent} {q : Reading} {l' : Lent} (c : ReadAs s l q l
     pub found : ReadingOf s q
     found = (c.enough long).0
 
-    pub judged : {x : Checking} → JudgedAs s (tabled q.n q.m l'.table) q x → CheckAs s l x l'
-    judged h =
+    pub judged : {r : Result ℕ Rejected} → JudgedAs s (tabled q.n q.m l'.table) r → {x : Checking} → x ≡ answer_of q r → CheckAs s l x l'
+    judged h e =
         let b = (c.enough long).1 in
         let t = ap (λ (y : Lent). y.table) (b ∙ when_fine s _ _ (g found z).parsed) in
-        record { bytes = c.bytes; short = λ n. absurd (n long); enough = λ _. (judged_of found z (device-read found z l.table long.0 t) h, b) }
+        record { bytes = c.bytes; short = λ n. absurd (n long); enough = λ _. (judged_of found z (device-read found z l.table long.0 t) h e, b) }
 
 -- ---- with a scratch in place of the buffers
 module _ {s : List ℕ} {q : Reading} (c : ReadingOf s q) where
@@ -102,12 +106,12 @@ module _ {s : List ℕ} {q : Reading} (c : ReadingOf s q) where
       }
 
   pub small-judged : (z : q.code ≡ 0) → {x : Checking} {scratch scratch' : List ℕ} → Indexed s scratch scratch'
-      → JudgedAs s (moved s q.n q.m scratch') q x → CheckSmallAs s scratch x scratch'
-  small-judged z {scratch = scratch} {scratch'} i h =
+      → {r : Result ℕ Rejected} → JudgedAs s (moved s q.n q.m scratch') r → x ≡ answer_of q r → CheckSmallAs s scratch x scratch'
+  small-judged z {scratch = scratch} {scratch'} i h e =
       let k = g c z in
       record {
         checking =
-            λ long. judged_of c z (ap (λ (y : Reading). moved s y.n y.m scratch') k.result ∙ of_book long k.book k.allowed k.bytes) h;
+            λ long. judged_of c z (ap (λ (y : Reading). moved s y.n y.m scratch') k.result ∙ of_book long k.book k.allowed k.bytes) h e;
         device = λ long _. of_book long;
         rest = i.rest;
       }

@@ -1,5 +1,5 @@
 -- What checking answers, computed, over reading's chain of tests, of the bytes alone. proofs/Exactly ties it to specs/Checks. Assumes nothing: these are definitions.
-use Rattle.std.specs.Prelude.{◌≡◌, Bool, false, not, List, ℕ, suc, ◌-◌, ◌≤◌, ◌<◌, length, drop}
+use Rattle.std.specs.Prelude.{◌≡◌, Bool, false, not, List, ℕ, ◌-◌, ◌≤◌, ◌<◌, length, drop, Result, Ok, Err}
 use Rattle.base.specs.Lists.{Each}
 use Rattle.base.specs.Sizes.{LongEnough}
 use Rattle.base.specs.Tests.{pick}
@@ -13,25 +13,23 @@ use Rattle.reversal.specs.Computed.Units.{back_units, items_made}
 use Rattle.states.specs.StateSets.{in_limits}
 use Rattle.moves.specs.Moves.{moved}
 use Rattle.book.specs.Book.{Book, device_of, AllowedBook, bytes_of, items_of}
+use Rattle.book.specs.Faults.{code_of}
 use Rattle.book.specs.Lent.{Lent, sizes}
 use Rattle.reader.specs.declared.Reading.{Reading}
 use Rattle.reader.specs.Reads.{refusal, done}
 use Rattle.reader.specs.Contract.{book_by, filled_by}
 use Rattle.checker.specs.declared.Checking.{Checking}
 use Rattle.checker.specs.declared.TableChecking.{TableChecking}
-use Rattle.checker.specs.declared.JudgementMade.{JudgementMade}
+use Rattle.checker.specs.declared.Rejected.{Rejected}
 use Rattle.checker.specs.declared.Reason.{Reason}
 use Rattle.checker.specs.declared.Reason.TheVariants.{NoReversePlan, NotEffective}
-use Rattle.checker.specs.declared.Judgement.{Judgement}
-use Rattle.checker.specs.declared.Judgement.TheVariants.{AllAccepted, Wrong}
-use Rattle.checker.specs.Reasons.{code_of}
+use Rattle.checker.specs.Reasons.{fault_of}
 use Rattle.checker.specs.Checks.{place_of, with_units}
 use Rattle.checker.specs.TableChecks.{TableChecks}
 
--- what a reverse run answers: 0 where it arrives, else 1 more than the number of commands that were not applied, those behind the one that couldn't be
--- carried out
-unfoldable pub back_of : Device → ℕ → List ℕ → ℕ → ℕ
-back_of d w commands goal = pick (runs_back d w commands goal) 0 (suc (length commands) - back_units d w commands)
+-- what a reverse run answers: that it arrives, else the number of commands that were not applied, those behind the one that couldn't be carried out
+unfoldable pub back_of : Device → ℕ → List ℕ → ℕ → Result (Unit {0}) ℕ
+back_of d w commands goal = pick (runs_back d w commands goal) (Ok tt) (Err (length commands - back_units d w commands))
 
 -- whether it arrives; outside the limits of n and m it doesn't
 unfoldable pub returns_in : Device → ℕ → List ℕ → ℕ → Bool
@@ -49,30 +47,36 @@ reason_for d x = pick (reverses d x) NotEffective NoReversePlan
 abbrev pub reason_in : Book → Reason
 reason_in b = reason_for (device_of b) (item (items_of b) (wrong_item b))
 
--- the judgement of the items of b: the first wrong one's record, and why
-unfoldable pub judgement_of : Book → Judgement
-judgement_of b = pick (less (wrong_item b) (length (items_of b))) (Wrong (place_of b (wrong_item b)) (reason_in b)) AllAccepted
-
--- the units made for it
+-- the units made for the judgement of b's items
 abbrev pub units_of : Book → ℕ
 units_of b = items_made (device_of b) (items_of b)
 
--- the contract of `first_wrong`: book s, the device d that is lent, answer r
-abbrev pub Judged : List ℕ → Device → JudgementMade → Type 0
-Judged s d r = (b : Book) → AllowedBook b → bytes_of b ≡ s → d ≡ device_of b → r ≡ record { found = judgement_of b; units = units_of b }
+-- a wrong item whose record begins at a place
+abbrev pub wrong_for : ℕ → Reason → ℕ → Rejected
+wrong_for place why units = record { at = record { fault = fault_of why; place = place }; units = units }
 
-abbrev pub on_judgement : {A : Type 0} → Judgement → (ℕ → ℕ → A) → A → A
-on_judgement AllAccepted refuse fine = fine
-on_judgement (Wrong place why) refuse fine = refuse (code_of why) place
+-- the judgement: these units, where a wrong item is found too; the first wrong one's record, and why
+unfoldable pub judgement_of : Book → Result ℕ Rejected
+judgement_of b =
+    pick (less (wrong_item b) (length (items_of b))) (Err (wrong_for (place_of b (wrong_item b)) (reason_in b) (units_of b)))
+    (Ok (units_of b))
+
+-- the contract of `judge_items`: book s, the device d that is lent, answer r
+abbrev pub JudgedAs : List ℕ → Device → Result ℕ Rejected → Type 0
+JudgedAs s d r = (b : Book) → AllowedBook b → bytes_of b ≡ s → d ≡ device_of b → r ≡ judgement_of b
+
+abbrev pub on_judgement : {A : Type 0} → Result ℕ Rejected → (ℕ → ℕ → A) → A → A
+on_judgement (Ok units) refuse fine = fine
+on_judgement (Err r) refuse fine = refuse (code_of r.at.fault) r.at.place
+
+-- the answer with the judgement of the items, of a book that was read
+abbrev pub answer_of : Reading → Result ℕ Rejected → Checking
+answer_of found (Ok units) = with_units found units
+answer_of found (Err r) = with_units (refusal (code_of r.at.fault) r.at.place) r.units
 
 -- of a book that was read: the code for its first wrong item, at that item's place, else `fine`
 abbrev pub judged_by : {A : Type 0} → (ℕ → ℕ → A) → (Book → A) → Book → A
 judged_by refuse fine b = on_judgement (judgement_of b) refuse (fine b)
-
--- the contract of `judge_items`: book s, the device d that is lent, what reading found, answer r
-abbrev pub JudgedAs : List ℕ → Device → Reading → Checking → Type 0
-JudgedAs s d found r =
-    (b : Book) → AllowedBook b → bytes_of b ≡ s → d ≡ device_of b → r ≡ with_units (on_judgement (judgement_of b) refusal found) (units_of b)
 
 -- `refuse` with the first code and its place, `fine` with an accepted book
 unfoldable pub check_by : {A : Type 0} → List ℕ → (ℕ → ℕ → A) → (Book → A) → A

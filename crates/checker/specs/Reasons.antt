@@ -2,6 +2,8 @@
 use Rattle.std.specs.Prelude.{ℕ}
 use Rattle.reversal.specs.Device.{Device}
 use Rattle.reversal.specs.Reversal.{Item, Reverses, NeverUsed}
+use Rattle.book.specs.declared.fault.Fault.{Fault}
+use Rattle.book.specs.declared.fault.Fault.TheVariants as faults
 use Rattle.checker.specs.declared.Reason.{Reason}
 use Rattle.checker.specs.declared.Reason.TheVariants.{NoReversePlan, NotEffective}
 
@@ -9,6 +11,11 @@ use Rattle.checker.specs.declared.Reason.TheVariants.{NoReversePlan, NotEffectiv
 abbrev pub code_of : Reason → ℕ
 code_of NoReversePlan = 8
 code_of NotEffective = 12
+
+-- the fault of a book with such an item
+abbrev pub fault_of : Reason → Fault
+fault_of NoReversePlan = faults.NoReversePlan
+fault_of NotEffective = faults.NotEffective
 
 -- this is why the item is not accepted
 abbrev pub Due : Reason → Device → Item → Type 0

@@ -3,23 +3,41 @@
 
 ghost use Rattle.std.specs.Prelude.{◌≡◌, ◌≤◌};
 ghost use Rattle.octets.specs.Le.{bytes_le};
-ghost use Rattle.states.specs.StateSets.{device_in};
 ghost use Rattle.book.specs.Book.{WellFormed};
 ghost use Rattle.book.specs.Lent.{lent};
-ghost use Rattle.checker.specs.Reasons.{code_of};
+ghost use Rattle.checker.specs.Reasons.{fault_of};
 ghost use Rattle.checker.specs.Checks.{with_units};
-ghost use Rattle.checker.specs.Contract.{back_of, returns_in, Judged, JudgedAs, CheckAs, CheckSmallAs, CheckTableAs};
+ghost use Rattle.checker.specs.Contract.{back_of, returns_in, wrong_for, answer_of, JudgedAs, CheckAs, CheckSmallAs, CheckTableAs};
 
+use book::{Fault, FaultAt};
 use reader::Reading;
-use states::StateSet;
+use states::{Moved, Outcomes, StateSet, Tabled};
 
 // Why an item is not accepted.
-#[derive(Drop)]
+#[derive(Clone, Copy, Debug, PartialEq, Eq)]
 pub enum Reason {
     // It is no conditional reverse plan.
     NoReversePlan,
     // It is one, but no start in psi has an end in phi: it can never be used.
     NotEffective,
+}
+
+impl From<Reason> for Fault {
+    ghost from_gives = { λ why fault. fault ≡ fault_of why };
+
+    fn from(why: Reason) -> Fault {
+        match why {
+            Reason::NoReversePlan => Fault::NoReversePlan,
+            Reason::NotEffective => Fault::NotEffective,
+        }
+    }
+}
+
+// Why a book is not accepted: the fault of its bytes or of its first wrong item, and its place; the units made, 0 where no item was judged.
+#[derive(Clone, Copy, Debug, PartialEq, Eq)]
+pub struct Rejected {
+    pub at: FaultAt,
+    pub units: u64,
 }
 
 // What checking answers: the code and its place; n, m and the number of items, each 0 on a refusal; the units made, 0 where no item was judged.
@@ -43,146 +61,91 @@ pub struct TableChecking {
     pub m: u64,
 }
 
-// What the judgement of all items answers.
-#[derive(Drop)]
-pub enum Judgement {
-    AllAccepted,
-    // The first item that is not accepted: the place of its record, and why.
-    Wrong(u64, Reason),
-}
-
-// The judgement of all items, and the units made for it.
-#[derive(Drop)]
-struct JudgementMade {
-    found: Judgement,
-    units: u64,
-}
-
 // A reverse run of the `left` commands that are the lowest bytes of `rest`: no command left and the goal alone in the set, or a next command that every
-// state of the set can carry out, with the rest run from the set after it. It answers 0 where it arrives, else 1 more than the number of commands behind
-// the one that couldn't be carried out. The answer is one number and each slice is lent by a reference to it, so that the compiler makes a loop of the
-// recursion.
-fn runs_on(
+// state of the set can carry out, with the rest run from the set after it. Where it doesn't arrive, the number of commands behind the one that couldn't
+// be carried out.
+fn runs_on<D: Outcomes>(
     set: StateSet,
-    book: &&[u8],
-    masks: &&[u64],
-    tabled: bool,
-    n: u64,
-    m: u64,
+    device: &D,
     rest: u64,
     left: usize,
     goal: u64,
-) -> u64
-    requires { (n ≤ 64) × (m ≤ 32) }
-    ensures { result ≡ back_of (device_in tabled book.now.now masks.now.now n m) set.mask (bytes_le left rest) goal }
+) -> Result<(), usize>
+    requires { ((D.device device.now).n ≤ 64) × ((D.device device.now).m ≤ 32) }
+    ensures { result ≡ back_of (D.device device.now) set.mask (bytes_le left rest) goal }
 {
     if left == 0 {
-        if set.is_only(goal) {
-            return 0;
-        }
-        return 1;
+        return if set.is_only(goal) { Ok(()) } else { Err(0) };
     }
-    let sent = set.sent(*book, *masks, tabled, n, m, rest % 256);
-    if !sent.able {
-        return left as u64;
-    }
-    runs_on(
-        sent.set,
-        book,
-        masks,
-        tabled,
-        n,
-        m,
-        rest / 256,
-        left - 1,
-        goal,
-    )
+    let Some(next) = set.sent(device, rest % 256) else {
+        return Err(left - 1);
+    };
+    runs_on(next, device, rest / 256, left - 1, goal)
 }
 
 // Whether a reverse run of the `left` commands that are the lowest bytes of `rest` arrives: from every state of the set they all can be carried out, and
 // lead to the goal alone. Outside the limits of n and m no run does.
-pub fn returns(
-    set: StateSet,
-    book: &[u8],
-    masks: &[u64],
-    tabled: bool,
-    n: u64,
-    m: u64,
-    rest: u64,
-    left: usize,
-    goal: u64,
-) -> bool
-    ensures { result ≡ returns_in (device_in tabled book.now masks.now n m) set.mask (bytes_le left rest) goal }
+pub fn returns<D: Outcomes>(set: StateSet, device: &D, rest: u64, left: usize, goal: u64) -> bool
+    ensures { result ≡ returns_in (D.device device.now) set.mask (bytes_le left rest) goal }
 {
-    if 64 < n {
-        return false;
-    }
-    if 32 < m {
-        return false;
-    }
-    runs_on(set, &book, &masks, tabled, n, m, rest, left, goal) == 0
+    states::in_limits(device) && runs_on(set, device, rest, left, goal).is_ok()
 }
 
-// The first item that is not accepted, from the book's bytes. For each start in psi, the ends in phi are run back together, and where there are
-// none the empty set; an item is effective if some start is used, that is, has an end. The search is left as soon as one item fails. A start takes a
-// unit for each of its commands that is applied: all of them, where it doesn't fail. The commands each way are read as one number, of which each turn
-// takes the lowest byte.
-fn first_wrong(book: &[u8], masks: &[u64], tabled: bool, n: u64, m: u64) -> JudgementMade
-    requires { (n ≤ 64) × (m ≤ 32) × WellFormed book.now }
-    ensures { Judged book.now (device_in tabled book.now masks.now n m) result }
+// Judges the items from the book's bytes: the units made, or the first item that is not accepted. For each start in psi, the ends in phi are run back
+// together, and where there are none the empty set; an item is effective if some start is used, that is, has an end. The search is left as soon as one
+// item fails. A start takes a unit for each of its commands that is applied: all of them, where it doesn't fail. The commands each way are read as one
+// number, of which each turn takes the lowest byte.
+fn judge_items<D: Outcomes>(book: &[u8], device: &D) -> Result<u64, Rejected>
+    requires { ((D.device device.now).n ≤ 64) × ((D.device device.now).m ≤ 32) × WellFormed book.now }
+    ensures { JudgedAs book.now (D.device device.now) result }
 {
     let mut at = items::first_item(book);
-    let mut found = Judgement::AllAccepted;
     let mut units = 0;
-    'items: while at < book.len() {
+    'items: loop {
+        if book.len() <= at {
+            break Ok(units);
+        }
         let item = items::parts_at(book, at);
         let phi = items::phi(book, item);
         let psi = items::psi(book, item);
         let forward = octets::u64_at(book, item.forward);
         let reverse = octets::u64_at(book, item.reverse);
         let mut used = false;
-        let mut starts = StateSet::of(psi).below(n);
-        while !starts.is_empty() {
-            let start = starts.lowest();
+        for start in StateSet::of(psi).below(device.n()) {
             let mut ends = StateSet::of(0).add(start);
             let mut rest = forward;
             for j in 0..item.k {
-                ends = ends.after(book, masks, tabled, n, m, rest % 256);
-                rest = rest / 256;
+                ends = ends.after(device, rest % 256);
+                rest /= 256;
             }
             ends = ends.within(phi);
-            let back = runs_on(ends, &book, &masks, tabled, n, m, reverse, item.r, start);
-            units = units + (item.k + item.r) as u64;
+            let back = runs_on(ends, device, reverse, item.r, start);
+            units += (item.k + item.r) as u64;
             if !ends.is_empty() {
                 used = true;
-                if back != 0 {
+                if let Err(behind) = back {
                     // The commands behind the one that couldn't be carried out were not applied.
-                    units = units + 1 - back;
-                    found = Judgement::Wrong(at as u64, Reason::NoReversePlan);
-                    break 'items;
+                    break 'items Err(wrong(at, Reason::NoReversePlan, units - behind as u64));
                 }
             }
-            starts = starts.without_lowest();
         }
         if !used {
-            found = Judgement::Wrong(at as u64, Reason::NotEffective);
-            break 'items;
+            break Err(wrong(at, Reason::NotEffective, units));
         }
         at = item.next;
     }
-    JudgementMade {
-        found: found,
-        units: units,
-    }
 }
 
-// The code for a reason.
-fn code_of(why: Reason) -> u64
-    ensures { result ≡ code_of why }
+// The refusal for a wrong item whose record begins at a place.
+fn wrong(at: usize, why: Reason, units: u64) -> Rejected
+    ensures { result ≡ wrong_for at why units }
 {
-    match why {
-        Reason::NoReversePlan => 8,
-        Reason::NotEffective => 12,
+    Rejected {
+        at: FaultAt {
+            fault: why.into(),
+            place: at as u64,
+        },
+        units,
     }
 }
 
@@ -201,17 +164,15 @@ fn with_units(found: Reading, units: u64) -> Checking
 }
 
 // The answer for a book that was read: the judgement of its items, with the units made.
-fn judge_items(book: &[u8], masks: &[u64], tabled: bool, found: Reading) -> Checking
-    requires { (found.n ≤ 64) × (found.m ≤ 32) × WellFormed book.now }
-    ensures { JudgedAs book.now (device_in tabled book.now masks.now found.n found.m) found result }
+fn answer(found: Reading, judged: Result<u64, Rejected>) -> Checking
+    ensures { result ≡ answer_of found judged }
 {
-    let judged = first_wrong(book, masks, tabled, found.n, found.m);
-    let judgement = judged.found;
-    match judgement {
-        Judgement::AllAccepted => with_units(found, judged.units),
-        Judgement::Wrong(place, why) => {
-            with_units(reader::refused(code_of(why), place), judged.units)
-        }
+    match judged {
+        Ok(units) => with_units(found, units),
+        Err(wrong) => with_units(
+            reader::refused(wrong.at.fault.into(), wrong.at.place),
+            wrong.units,
+        ),
     }
 }
 
@@ -224,7 +185,13 @@ pub fn check(book: &[u8], table: &mut [u64], slots: &mut [u8], weights: &mut [u1
     if found.code != 0 {
         return with_units(found, 0);
     }
-    judge_items(book, table, true, found)
+    let device = Tabled {
+        table,
+        n: found.n,
+        m: found.m,
+    };
+    let judged = judge_items(book, &device);
+    answer(found, judged)
 }
 
 // The same with a scratch of at least 64 masks in place of the buffers. Where the book was read the scratch holds the index of its moves.
@@ -236,7 +203,14 @@ pub fn check_small(book: &[u8], scratch: &mut [u64]) -> Checking
         return with_units(found, 0);
     }
     moves::index(book, scratch);
-    judge_items(book, scratch, false, found)
+    let device = Moved {
+        book,
+        index: scratch,
+        n: found.n,
+        m: found.m,
+    };
+    let judged = judge_items(book, &device);
+    answer(found, judged)
 }
 
 // The same with a table of at least 2,048 entries as the only buffer.
@@ -261,7 +235,13 @@ pub fn check_table(book: &[u8], table: &mut [u64]) -> TableChecking
         };
     }
     reader::fill_table(book, table);
-    let judged = judge_items(book, table, true, found);
+    let device = Tabled {
+        table,
+        n: found.n,
+        m: found.m,
+    };
+    let judged = judge_items(book, &device);
+    let judged = answer(found, judged);
     TableChecking {
         code: judged.code,
         place: judged.place,

@@ -2,4 +2,4 @@
 use Rattle.checker.proofs.+runs_on.Given as goal
 
 abbrev pub decreases-runs_on : goal.decreases-runs_on
-decreases-runs_on l = l.left
+decreases-runs_on g l = l.left

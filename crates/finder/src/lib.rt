@@ -266,7 +266,7 @@ impl Search<'_> {
             if last == 0 {
                 return None;
             }
-            return Some(row.with(u64::trailing_zeros(last) as u64).number);
+            return Some(row.with(last.trailing_zeros() as u64).number);
         }
         for c in 0..self.within.device.m {
             if let Some(number) = self.lowest_row(row.with(c), left - 1) {

@@ -3,7 +3,7 @@ use mathlib.Core.Path.{refl, sym, ap, ◌∙◌}
 use mathlib.Core.Bool.{false≢true}
 use borrow.Author.Tests.{eqb-true}
 use Rattle.finder.specs.Searching.{found_with}
-use Rattle.finder.proofs.Ways.{as_refused, within, as_barred, as_unused, as_sought}
+use Rattle.finder.proofs.Ways.{as_refused, as_barred, as_unused, as_sought}
 use Rattle.finder.proofs.find.Goals as goal
 
 pub returns-then-checked-ne0 : goal.returns-then-checked-ne0

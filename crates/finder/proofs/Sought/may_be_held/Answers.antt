@@ -1,6 +1,5 @@
 -- `may_be_held` meets its contract. Assumes nothing.
-use mathlib.Core.Path.{sym, ap, ◌∙◌}
-use Rattle.finder.specs.Contract.{holds}
+use mathlib.Core.Path.{sym, ◌∙◌}
 use Rattle.finder.proofs.Kept.{holds_not, holds_fields}
 use Rattle.finder.proofs.Sought.may_be_held.Goals as goal
 

@@ -1,5 +1,5 @@
--- The ways through the code that judges what is sought, keeps the ends of the starts and tests a row of commands on them; a row as three commands. Assumes
--- nothing.
+-- The ways through the code that runs the forward commands, keeps the ends of the starts and tests a row of commands on them; a row as three commands.
+-- Assumes nothing.
 use mathlib.Core.Path.{◌≡◌, refl, sym, ap, ◌∙◌}
 use mathlib.Core.Bool.{Bool, true, false, false≢true}
 use mathlib.Core.Logic.{⊎_elim}
@@ -32,16 +32,6 @@ use Rattle.checker.proofs.Items.{reach_on}
 use Rattle.finder.specs.Finds.{Sought, item_of}
 use Rattle.finder.specs.Contract.{holds, EndsKept, all_back, Passing, answer}
 use Rattle.finder.proofs.Passes.{none_pass, mark_yes, mark_no, fails_on}
-
--- ---- what some item may hold
-module _ (n m : ℕ) (q : Sought) where
-  pub holds_not : counts_fine (length q.forward) 0 ≡ false → false ≡ holds n m q
-  unfolding holds pick
-  holds_not e = rw e
-
-  pub holds_fields : counts_fine (length q.forward) 0 ≡ true → fields_fine n m (item_of q []) ≡ holds n m q
-  unfolding holds pick
-  holds_fields e = rw e
 
 -- ---- forward commands: those that are left lead on from the set to where all of them lead from the start
 module _ (d : Device) (S : ℕ) (forward : List ℕ) where

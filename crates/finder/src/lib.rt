@@ -100,6 +100,7 @@ impl<'a> Model for Sought<'a> {
 
 impl Sought<'_> {
     // Whether some item may hold it: one with no reverse command may, if any.
+    #[tactic(auto, unfolding(crate::specs::Contract::holds, base::specs::Tests::pick))]
     fn may_be_held(&self, n: u64, m: u64) -> bool
         ensures { result ≡ holds n m self.now }
     {

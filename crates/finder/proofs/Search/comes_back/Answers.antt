@@ -30,6 +30,3 @@ loop-start-preserved c =
     let row = bytes_le c.args.row.count c.args.row.number in
     back_passes d s.ends.now row c.loop-start.invariant _ _ c.in-Some.ensures.steps
     (ap (λ (w : ℕ). returns_in d w row c.in-Some.start) (sym (mask_of c.of-set.ensures)) ∙ sym c.returns.ensures ∙ c.if-not-returns.false)
-
-pub returns : goal.returns
-returns c = coming_end _ _ _ _ _ c.loop-start.invariant c.in-None.ensures.steps.0

@@ -23,11 +23,6 @@ use Rattle.finder.proofs.Search.last_commands.Goals as goal
 full : (m : ℕ) → m ≤ 32 → 1 * 2 ^ m % 2 ^ 64 ≡ 2 ^ m
 full m h = shl_one m (omega (arith, h))
 
-pub overflow_sub-commands : goal.overflow_sub-commands
-overflow_sub-commands c =
-    let d = c.args.self.now.within in
-    omega (arith, full d.device.m d.commands, pow_pos d.device.m)
-
 pub loop-start-init : goal.loop-start-init
 loop-start-init c =
     let s = c.args.self.now in
@@ -67,6 +62,3 @@ loop-start-preserved c =
     let row = bytes_le c.args.row.count c.args.row.number in
     next_start d s.ends.now row s.within.states s.within.commands (whole_back d s.ends.now row s.used.mask) l.commands _ l.invariant _ _ c.in-Some.ensures.steps
     _ (mask_of c.of-set.ensures) _ c.last_behind-commands.ensures
-
-pub returns : goal.returns
-returns c = ask_end _ _ _ _ _ _ c.loop-start.invariant c.in-None.ensures.steps.0

@@ -26,11 +26,10 @@ use Rattle.states.specs.declared.StateSet.{StateSet}
 use Rattle.states.specs.StateSets.{set_of, after_in}
 use Rattle.states.proofs.Laws.{one_state}
 use Rattle.states.proofs.Row.{Coming, coming_first, coming_next}
-use Rattle.book.specs.Limits.{counts_fine, fields_fine}
 use Rattle.checker.specs.Contract.{returns_in}
 use Rattle.checker.proofs.Items.{reach_on}
 use Rattle.finder.specs.Finds.{Sought, item_of}
-use Rattle.finder.specs.Contract.{holds, EndsKept, all_back, Passing, answer}
+use Rattle.finder.specs.Contract.{EndsKept, all_back, Passing, answer}
 use Rattle.finder.proofs.Passes.{none_pass, mark_yes, mark_no, fails_on}
 
 -- ---- forward commands: those that are left lead on from the set to where all of them lead from the start

@@ -145,31 +145,30 @@ module _ (d : Device) (S : ℕ) where
         go c false = all_failed (to_start c) d.n rest
 
   -- ---- the commands before it
-  abbrev pub back_with : ℕ → ℕ → ℕ → ℕ → Bool
-  back_with w left rest c = runs_back d w (bytes_le left rest ++ (c ∷ [])) S
+  abbrev pub back_with : ℕ → List ℕ → ℕ → Bool
+  back_with w cs c = runs_back d w (cs ++ (c ∷ [])) S
 
   -- those that are left, from the set, with the last one
-  abbrev pub Behind : (ℕ → Bool) → ℕ → ℕ → ℕ → Type 0
-  Behind whole w left rest = (c : ℕ) → back_with w left rest c ≡ whole c
+  abbrev pub Behind : (ℕ → Bool) → ℕ → List ℕ → Type 0
+  Behind whole w cs = (c : ℕ) → back_with w cs c ≡ whole c
 
-  module _ (hn : d.n ≤ 64) (hm : d.m ≤ 32) (whole : ℕ → Bool) (w left left' rest : ℕ) (e : left ≡ suc left') (h : Behind whole w left rest) where
-    one-command : (c : ℕ) → both (able d (rest % 256) w) (runs_back d (after d (rest % 256) w) (bytes_le left' (rest / 256) ++ (c ∷ [])) S) ≡ whole c
-    unfolding runs_back bytes_le
-    one-command c = rw e at (h c)
+  module _ (hn : d.n ≤ 64) (hm : d.m ≤ 32) (whole : ℕ → Bool) (w : ℕ) (left : List ℕ) (h : Behind whole w left) where
+    module _ (b : ℕ) (left' : List ℕ) (e : left ≡ b ∷ left') where
+      one-command : (c : ℕ) → both (able d b w) (runs_back d (after d b w) (left' ++ (c ∷ [])) S) ≡ whole c
+      unfolding runs_back
+      one-command c = rw e at (h c)
 
-    pub behind_next : (w' : ℕ) → able_in d (rest % 256) w ≡ true → w' ≡ after_in d (rest % 256) w → Behind whole w' left' (rest / 256)
-    unfolding both
-    behind_next w' t q c =
-        ap (λ (v : ℕ). back_with v left' (rest / 256) c) (q ∙ after-limits d (rest % 256) w hn hm)
-        ∙ (rw (sym (able-limits d (rest % 256) w hn hm) ∙ t) at (one-command c))
+      pub behind_next : (w' : ℕ) → able_in d b w ≡ true → w' ≡ after_in d b w → Behind whole w' left'
+      unfolding both
+      behind_next w' t q c =
+          ap (λ (v : ℕ). back_with v left' c) (q ∙ after-limits d b w hn hm) ∙ (rw (sym (able-limits d b w hn hm) ∙ t) at (one-command c))
 
-    pub behind_stuck : able_in d (rest % 256) w ≡ false → (c : ℕ) → whole c ≡ false
-    unfolding both
-    behind_stuck f c = sym (rw (sym (able-limits d (rest % 256) w hn hm) ∙ f) at (one-command c))
+      pub behind_stuck : able_in d b w ≡ false → (c : ℕ) → whole c ≡ false
+      unfolding both
+      behind_stuck f c = sym (rw (sym (able-limits d b w hn hm) ∙ f) at (one-command c))
 
-  pub behind_none : (whole : ℕ → Bool) (w left rest c : ℕ) → left ≡ 0 → Behind whole w left rest → runs_back d w (c ∷ []) S ≡ whole c
-  unfolding bytes_le
-  behind_none whole w left rest c e h = rw e at (h c)
+    pub behind_none : left ≡ [] → (c : ℕ) → runs_back d w (c ∷ []) S ≡ whole c
+    behind_none e c = rw e at (h c)
 
 -- ---- all starts
 module _ (d : Device) (kept row : List ℕ) where

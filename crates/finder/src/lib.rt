@@ -67,6 +67,28 @@ impl Row {
     }
 }
 
+// Its commands, from the first on.
+impl Iterator for Row {
+    type Item = u64;
+
+    ghost use Rattle.std.specs.Iterator.{YieldsFirst, item_count};
+    ghost use Rattle.finder.specs.Searching.{commands_of};
+
+    ghost next_gives = { YieldsFirst commands_of };
+
+    ghost remaining = { item_count commands_of };
+
+    fn next(&mut self) -> Option<u64> {
+        if self.count == 0 {
+            return None;
+        }
+        let command = self.number % 256;
+        self.number /= 256;
+        self.count -= 1;
+        Some(command)
+    }
+}
+
 // The answer with a row.
 impl From<Row> for Found {
     ghost from_gives = { λ row found. found ≡ answer row.count row.number };
@@ -118,7 +140,7 @@ struct InLimits<'a> {
 }
 
 impl InLimits<'_> {
-    ghost use Rattle.finder.specs.Searching.{lent};
+    ghost use Rattle.finder.specs.Searching.{lent, commands_of};
 
     // The ends in phi that the forward commands lead to from a start.
     fn ends_of(&self, start: u64, sought: &Sought) -> StateSet
@@ -189,16 +211,14 @@ impl InLimits<'_> {
         requires start { start < 64 }
         requires commands { NoBitFrom self.now.device.m commands }
         ensures { Passing self.now.device.m (λ c. both (member commands c)
-            (runs_back (lent self.now) set.mask (bytes_le row.count row.number ++ (c ∷ [])) start)) result }
+            (runs_back (lent self.now) set.mask (commands_of row ++ (c ∷ [])) start)) result }
     {
         let mut at = set;
-        let mut rest = row.number;
-        for j in 0..row.count {
-            let Some(next) = at.sent(&self.device, rest % 256) else {
+        for command in row {
+            let Some(next) = at.sent(&self.device, command) else {
                 return 0;
             };
             at = next;
-            rest /= 256;
         }
         self.last_from(at, start, commands)
     }
@@ -213,12 +233,12 @@ struct Search<'a> {
 }
 
 impl Search<'_> {
-    ghost use Rattle.finder.specs.Searching.{lent, found_with};
+    ghost use Rattle.finder.specs.Searching.{lent, commands_of, found_with};
 
     // Whether the row brings every start that is used back from its ends.
     fn comes_back(&self, row: Row) -> bool
         ensures { result ≡ all_back (lent self.now.within) self.now.ends.now self.now.used.mask
-            (bytes_le row.count row.number) }
+            (commands_of row) }
     {
         let device = self.within.device;
         for start in self.used.below(device.n) {
@@ -233,7 +253,7 @@ impl Search<'_> {
     // The commands that, sent after a row, bring every start that is used back from its ends.
     fn last_commands(&self, row: Row) -> u64
         ensures { Passing self.now.within.device.m (λ c. all_back (lent self.now.within) self.now.ends.now self.now.used.mask
-            (bytes_le row.count row.number ++ (c ∷ []))) result }
+            (commands_of row ++ (c ∷ []))) result }
     {
         let device = self.within.device;
         let mut commands = (1 << device.m) - 1;

@@ -3,7 +3,6 @@ use mathlib.Core.Path.{sym, ap, ◌∙◌}
 use Prim.Native.Nat.{ℕ}
 use Rattle.octets.specs.Le.{bytes_le}
 use Rattle.states.proofs.Laws.{mask_of}
-use Rattle.states.proofs.Row.{coming_end}
 use Rattle.checker.specs.Contract.{returns_in}
 use Rattle.finder.specs.Searching.{lent}
 use Rattle.finder.proofs.Kept.{back_start, back_fails, back_passes}

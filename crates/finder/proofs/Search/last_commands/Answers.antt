@@ -5,7 +5,6 @@ use mathlib.Core.List.{List, [], ◌∷◌, ◌++◌}
 use Prim.Native.Nat.{ℕ, ◌-◌, ◌*◌, ◌%◌, ◌^◌, ◌≤◌}
 use native.Mathlib.Omega.{arith}
 use lib.ListN.{get_or}
-use lib.Pow.{pow_pos}
 use Rattle.base.specs.Tests.{both}
 use Rattle.base.specs.Cardinality.{member}
 use Rattle.base.proofs.Masks.{shl_one}
@@ -16,7 +15,7 @@ use Rattle.states.proofs.Laws.{mask_of}
 use Rattle.finder.specs.Contract.{Passing}
 use Rattle.finder.specs.Searching.{lent}
 use Rattle.finder.proofs.Passes.{passing_same}
-use Rattle.finder.proofs.Last.{Asking, ask_next, ask_end, ask_none, back_by, in_reach, whole_back, starts_first}
+use Rattle.finder.proofs.Last.{Asking, ask_next, ask_none, back_by, in_reach, whole_back, starts_first}
 use Rattle.finder.proofs.Search.last_commands.Goals as goal
 
 -- all commands

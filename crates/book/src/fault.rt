@@ -1,6 +1,7 @@
 // Why a call refuses what it was given, and at which place.
 ghost use Rattle.std.specs.Prelude.{◌≡◌};
 ghost use Rattle.book.specs.Faults.{code_of};
+ghost use Rattle.book.specs.Parse.{fault_at};
 
 // The faults of 01's table and of 02, in the order of their codes.
 #[derive(Clone, Copy, Debug, PartialEq, Eq)]
@@ -35,6 +36,15 @@ pub enum Fault {
     NoItem = 14,
     // No reverse of at most 3 commands makes an accepted item.
     NoReverse = 15,
+}
+
+impl Fault {
+    // This fault, found at a place.
+    pub fn at(self, place: u64) -> FaultAt
+        ensures { result ≡ fault_at self place }
+    {
+        FaultAt { fault: self, place }
+    }
 }
 
 impl From<Fault> for u64 {

@@ -7,7 +7,7 @@ use native.Mathlib.Numerals.{add-one}
 use native.Mathlib.Omega.{arith}
 use lib.ListN.{length, take, drop, length-append, length-drop, take-append-drop, drop_of_length-le}
 use lib.Seq.{drop-cons}
-use Rattle.std.specs.Prelude.{Result, Ok, Err}
+use Rattle.std.specs.Prelude.{Result, Ok, Err, IsErrAnd}
 use Rattle.base.specs.Tests.{pick, both}
 use Rattle.base.specs.Bounded.{seek}
 use Rattle.base.specs.Compare.{less}
@@ -25,13 +25,13 @@ use Rattle.items.proofs.Laws.{in_book}
 use Rattle.items.proofs.Walk.{one_more, all_passed}
 use Rattle.checker.specs.declared.Reason.{Reason}
 use Rattle.checker.specs.declared.Reason.TheVariants.{NoReversePlan, NotEffective}
+use Rattle.checker.specs.declared.Counts.{Counts}
 use Rattle.checker.specs.declared.Rejected.{Rejected}
 use Rattle.book.specs.Faults as faults
 use Rattle.checker.specs.Reasons.{code_of, fault_of}
-use Rattle.reader.specs.declared.Reading.{Reading}
-use Rattle.reader.specs.Reads.{refusal}
+use Rattle.reader.specs.Reads.{refusal, done}
 use Rattle.checker.specs.Checks.{place_of, with_units}
-use Rattle.checker.specs.Contract.{wrong_item, reason_for, reason_in, judgement_of, units_of, wrong_for, on_judgement, answer_of}
+use Rattle.checker.specs.Contract.{wrong_item, reason_for, reason_in, judgement_of, units_of, wrong_for, on_judgement, judged_by, checking_by}
 
 -- ---- the place of a record: what stands before it is the book with the items before it
 sizes : (xs ys : List Item) → length (framed (map item_rec (xs ++ ys))) ≡ length (framed (map item_rec xs)) + length (framed (map item_rec ys))
@@ -76,17 +76,33 @@ module _ (b : Book) where
   one-wrong l =
       sym (less_yes (turned_down (place_of b (wrong_item b)) (reason_in b) (units_of b)) _ (Ok (units_of b)) (wrong_item b) (length (items_of b)) l refl)
 
-  -- the answer with it has the units of the judgement
-  pub answer_by : (found : Reading) → answer_of found (judgement_of b) ≡ with_units (on_judgement (judgement_of b) refusal found) (units_of b)
+  -- what is answered with the judgement
+  pub judged_ok : {units : ℕ} → Ok units ≡ judgement_of b → with_units (done b) units ≡ with_units (judged_by refusal done b) (units_of b)
   unfolding judgement_of pick
-  answer_by found = go (less (wrong_item b) (length (items_of b)))
+  judged_ok {units} e = go (less (wrong_item b) (length (items_of b))) e
     where
       answer : Bool → Result ℕ Rejected
       answer t = pick t (turned_down (place_of b (wrong_item b)) (reason_in b) (units_of b)) (Ok (units_of b))
 
-      go : (t : Bool) → answer_of found (answer t) ≡ with_units (on_judgement (answer t) refusal found) (units_of b)
-      go true = refl
-      go false = refl
+      go : (t : Bool) → Ok units ≡ answer t → with_units (done b) units ≡ with_units (on_judgement (answer t) refusal (done b)) (units_of b)
+      go true q = cc
+      go false q = let u : units ≡ units_of b = cc in ap (with_units (done b)) u
+
+  pub judged_err : {r : Rejected} → Err r ≡ judgement_of b → checking_by (Err r) ≡ with_units (judged_by refusal done b) (units_of b)
+  unfolding judgement_of pick
+  judged_err {r} e = go (less (wrong_item b) (length (items_of b))) e
+    where
+      answer : Bool → Result ℕ Rejected
+      answer t = pick t (turned_down (place_of b (wrong_item b)) (reason_in b) (units_of b)) (Ok (units_of b))
+
+      go : (t : Bool) → Err r ≡ answer t → checking_by (Err r) ≡ with_units (on_judgement (answer t) refusal (done b)) (units_of b)
+      go true q = let u : r ≡ wrong_for (place_of b (wrong_item b)) (reason_in b) (units_of b) = cc in ap (λ (x : Rejected). checking_by (Err x)) u
+      go false q = cc
+
+-- a `?` passes on the error
+pub error_is : {r : Rejected} (x : Result Counts Rejected) → IsErrAnd x (λ e. e ≡ r) → x ≡ Err r
+error_is (Ok b) h = absurd h
+error_is (Err e) h = ap Err h
 
 -- ---- one item, by both rules
 module _ (d : Device) (x : Item) where

@@ -1,120 +1,147 @@
 -- The ways through checking, over reading's contracts. Assumes nothing.
 use mathlib.Core.Path.{◌≡◌, refl, sym, ap, ap₂, ◌∙◌}
 use mathlib.Core.List.{List}
-use Prim.Native.Nat.{ℕ, ◌≤◌}
+use Prim.Native.Nat.{ℕ, ◌≤◌, ◌<◌}
 use native.Mathlib.Omega.{arith}
 use lib.ListN.{length}
-use Rattle.std.specs.Prelude.{Result}
+use Rattle.std.specs.Prelude.{Result, Ok, Err, IsErrAnd}
+use Rattle.base.specs.Lists.{Bytes}
 use Rattle.base.specs.Sizes.{LongEnough}
 use Rattle.base.proofs.Sizes.{long_or_not}
 use Rattle.reversal.specs.Device.{Device, tabled}
+use Rattle.book.specs.declared.State.{State}
+use Rattle.book.specs.declared.fault.FaultAt.{FaultAt}
+use Rattle.book.specs.declared.fault.Fault.TheVariants.{ShortBuffer}
 use Rattle.book.specs.Book.{Book, device_of, AllowedBook, bytes_of, WellFormed}
 use Rattle.book.specs.Lent.{Lent, sizes}
+use Rattle.book.specs.Parse.{fault_at, cut, scan, at_start}
 use Rattle.book.specs.Buffers.{table_of}
+use Rattle.book.specs.Faults.{code_of}
+use Rattle.book.proofs.Codes.{refusal_codes}
 use Rattle.book.proofs.Device.{tabled-device}
+use Rattle.book.proofs.Refused.{refused_exactly}
 use Rattle.moves.specs.Moves.{moved, Indexed}
 use Rattle.moves.proofs.Device.{moved-device}
 use Rattle.reader.specs.declared.Reading.{Reading}
+use Rattle.reader.specs.Judged.{Limits}
 use Rattle.reader.specs.Reads.{refusal, done}
-use Rattle.reader.specs.Contract.{ReadingOf, ReadAs}
+use Rattle.reader.specs.Contract.{ReadInto}
+use Rattle.reader.proofs.Filling.{Found, found, refused}
 use Rattle.reader.proofs.Ways.{when_faulty, when_fine}
-use Rattle.reader.proofs.Exactly.{BookFound, book-found, fault_found}
-use Rattle.checker.specs.declared.Checking.{Checking}
+use Rattle.checker.specs.declared.Counts.{Counts}
 use Rattle.checker.specs.declared.Rejected.{Rejected}
 use Rattle.checker.specs.Checks.{with_units}
-use Rattle.checker.proofs.Judging.{answer_by}
-use Rattle.checker.specs.Contract.{JudgedAs, units_of, answer_of, judged_by, check_by, CheckingOf, CheckAs, CheckSmallAs}
+use Rattle.checker.specs.TableChecks.{answer_of, short}
+use Rattle.checker.specs.Contract.{unread, checking_by, units_of, judged_by, BookJudged, check_by, CheckingOf, CheckAs, CheckSmallAs, CheckTableAs}
+use Rattle.checker.proofs.Judging.{error_is}
+use Rattle.checker.proofs.TableChecks.{table-says}
+
+-- the device is in the table that was read
+device-read : {s : List ℕ} {st : State} (k : Found s st) (table : List ℕ) {table' : List ℕ} → 2048 ≤ length table → table' ≡ table_of k.book table
+    → tabled st.n st.m table' ≡ device_of k.book
+device-read k table long t = ap₂ (λ (x : Reading) (y : List ℕ). tabled x.n x.m y) k.result t ∙ tabled-device k.book table k.allowed long
 
 -- ---- of the bytes alone
-module _ {s : List ℕ} {q : Reading} (c : ReadingOf s q) where
-  pub refused_of : (q.code ≡ 0 → ⊥) → {x : Checking} → x ≡ with_units q 0 → CheckingOf s x
+module _ {s : List ℕ} (bytes : Bytes s) where
+  pub refused_of : {f : FaultAt} → Err f ≡ scan (cut s) 0 at_start → CheckingOf s (checking_by (Err (unread f)))
   unfolding check_by
-  refused_of n e =
-      let f = fault_found c n in
+  refused_of {f} e =
+      let p = refused s f (sym e) in
       record {
-        bytes = c.bytes;
-        result =
-            e ∙ ap₂ with_units (f.result ∙ sym (when_faulty s refusal (judged_by refusal done) f.parsed))
-            (sym (when_faulty s (λ code place. 0) units_of f.parsed));
+        bytes = bytes;
+        result = ap₂ with_units (sym (when_faulty s refusal (judged_by refusal done) p)) (sym (when_faulty s (λ code place. 0) units_of p));
       }
 
-  module _ (z : q.code ≡ 0) where
-    abbrev g : BookFound s q
-    g = book-found c z
+  module _ {st : State} (e : Ok st ≡ scan (cut s) 0 at_start) where
+    abbrev g : Found s st
+    g = found s st bytes (sym e)
 
     -- what the judgement asks
-    pub asked : (q.n ≤ 64) × (q.m ≤ 32) × WellFormed s
-    asked = (
-      omega (arith, ap (λ (x : Reading). x.n) g.result, g.allowed.device.n_high),
-      omega (arith, ap (λ (x : Reading). x.m) g.result, g.allowed.device.m_high),
-      (g.book, g.allowed, g.bytes),
-    )
+    pub asked : Limits st → (st.n ≤ 64) × (st.m ≤ 32) × WellFormed s
+    asked h = (h.n_high, h.m_high, (g.book, g.allowed, g.bytes))
 
     -- what it answers, of the book's device, is the answer
-    pub judged_of : {d : Device} → d ≡ device_of g.book → {r : Result ℕ Rejected} → JudgedAs s d r → {x : Checking} → x ≡ answer_of q r → CheckingOf s x
+    pub judged_of : {d : Device} → d ≡ device_of g.book → (r : Result Counts Rejected) → BookJudged s d st.items r → CheckingOf s (checking_by r)
     unfolding check_by
-    judged_of same h e =
+    judged_of same r h =
         record {
-          bytes = c.bytes;
+          bytes = bytes;
           result =
-              e
-              ∙ ap₂ answer_of g.result (h g.book g.allowed g.bytes same)
-              ∙ answer_by g.book (done g.book)
+              h g.book g.allowed g.bytes same (ap (λ (x : Reading). x.items) g.result)
               ∙ ap₂ with_units (sym (when_fine s refusal (judged_by refusal done) g.parsed)) (sym (when_fine s (λ code place. 0) units_of g.parsed));
         }
 
-    -- the device is in the table that was read
-    pub device-read : (table : List ℕ) {table' : List ℕ} → 2048 ≤ length table → table' ≡ table_of g.book table → tabled q.n q.m table' ≡ device_of g.book
-    device-read table long e =
-        ap₂ (λ (x : Reading) (t : List ℕ). tabled x.n x.m t) g.result e ∙ tabled-device g.book table g.allowed long
-
 -- ---- with lent buffers
-module _ {s : List ℕ} {l : Lent} {q : Reading} {l' : Lent} (c : ReadAs s l q l') where
-  pub passed_on : (q.code ≡ 0 → ⊥) → {x : Checking} → x ≡ with_units q 0 → CheckAs s l x l'
-  passed_on n e =
+module _ {s : List ℕ} {l l' : Lent} where
+  pub passed_on : {f : FaultAt} → ReadInto s l (Err f) l' → (r : Result Counts Rejected) → IsErrAnd r (λ e. e ≡ unread f) → CheckAs s l (checking_by r) l'
+  passed_on {f} c r h =
+      rw (error_is r h) (
       record {
         bytes = c.bytes;
-        short = λ k. let (r, b) = c.short k in (e ∙ ap (λ (y : Reading). with_units y 0) r, b);
-        enough = λ h. let (d, b) = c.enough h in (refused_of d n e, b);
+        short = λ k. let (e, b) = c.short k in let q : f ≡ fault_at ShortBuffer 0 = cc in (ap (λ (x : FaultAt). checking_by (Err (unread x))) q, b);
+        enough = λ k. let (e, _, b) = c.enough k in (refused_of c.bytes e, b);
       }
+      )
 
-  module _ (z : q.code ≡ 0) where
+  module _ {st : State} (c : ReadInto s l (Ok st) l') where
     long : LongEnough (sizes l)
     long = go (long_or_not (sizes l))
       where
         go : Dec (LongEnough (sizes l)) → LongEnough (sizes l)
         go (yes h) = h
-        go (no n) = absurd (omega (arith, z, ap (λ (x : Reading). x.code) (c.short n).0))
+        go (no n) = let e = (c.short n).0 in absurd cc
 
-    pub found : ReadingOf s q
-    found = (c.enough long).0
+    pub read_asked : (st.n ≤ 64) × (st.m ≤ 32) × WellFormed s
+    read_asked = let (e, h, _) = c.enough long in asked c.bytes e h
 
-    pub judged : {r : Result ℕ Rejected} → JudgedAs s (tabled q.n q.m l'.table) r → {x : Checking} → x ≡ answer_of q r → CheckAs s l x l'
-    judged h e =
-        let b = (c.enough long).1 in
-        let t = ap (λ (y : Lent). y.table) (b ∙ when_fine s _ _ (g found z).parsed) in
-        record { bytes = c.bytes; short = λ n. absurd (n long); enough = λ _. (judged_of found z (device-read found z l.table long.0 t) h e, b) }
+    pub judged : (r : Result Counts Rejected) → BookJudged s (tabled st.n st.m l'.table) st.items r → CheckAs s l (checking_by r) l'
+    judged r h =
+        let (e, _, b) = c.enough long in
+        let t = ap (λ (y : Lent). y.table) (b ∙ when_fine s _ _ (g c.bytes e).parsed) in
+        record { bytes = c.bytes; short = λ n. absurd (n long); enough = λ _. (judged_of c.bytes e (device-read (g c.bytes e) l.table long.0 t) r h, b) }
 
 -- ---- with a scratch in place of the buffers
-module _ {s : List ℕ} {q : Reading} (c : ReadingOf s q) where
-  pub small-refused : (q.code ≡ 0 → ⊥) → {x : Checking} {scratch : List ℕ} → x ≡ with_units q 0 → CheckSmallAs s scratch x scratch
-  small-refused n e =
+module _ {s scratch : List ℕ} (bytes : Bytes s) where
+  pub small-refused : {f : FaultAt} → Err f ≡ scan (cut s) 0 at_start → (r : Result Counts Rejected) → IsErrAnd r (λ e. e ≡ unread f)
+      → CheckSmallAs s scratch (checking_by r) scratch
+  small-refused {f} e r h =
+      rw (error_is r h) (
       record {
-        checking = λ _. refused_of c n e;
-        device = λ h z. absurd (n (sym (ap (λ (y : Checking). y.code) e) ∙ z));
+        checking = λ _. refused_of bytes e;
+        device = λ k z.
+            let due = (refused_exactly s (code_of f.fault) f.place bytes).0 (refused s f (sym e)) in
+            absurd (omega (arith, z, refusal_codes s (code_of f.fault) f.place due));
         rest = refl;
       }
+      )
 
-  pub small-judged : (z : q.code ≡ 0) → {x : Checking} {scratch scratch' : List ℕ} → Indexed s scratch scratch'
-      → {r : Result ℕ Rejected} → JudgedAs s (moved s q.n q.m scratch') r → x ≡ answer_of q r → CheckSmallAs s scratch x scratch'
-  small-judged z {scratch = scratch} {scratch'} i h e =
-      let k = g c z in
+  pub small-judged : {st : State} (e : Ok st ≡ scan (cut s) 0 at_start) {scratch' : List ℕ} → Indexed s scratch scratch'
+      → (r : Result Counts Rejected) → BookJudged s (moved s st.n st.m scratch') st.items r → CheckSmallAs s scratch (checking_by r) scratch'
+  small-judged e {scratch'} i r h =
+      let k = g bytes e in
       record {
-        checking =
-            λ long. judged_of c z (ap (λ (y : Reading). moved s y.n y.m scratch') k.result ∙ of_book long k.book k.allowed k.bytes) h e;
-        device = λ long _. of_book long;
+        checking = λ h'. judged_of bytes e (ap (λ (y : Reading). moved s y.n y.m scratch') k.result ∙ of_book h' k.book k.allowed k.bytes) r h;
+        device = λ h' _. of_book h';
         rest = i.rest;
       }
     where
       of_book : 64 ≤ length scratch → (b : Book) → AllowedBook b → bytes_of b ≡ s → moved s b.n b.m scratch' ≡ device_of b
-      of_book long b a same = moved-device b s scratch' a (i.entries b a same long)
+      of_book h' b a same = moved-device b s scratch' a (i.entries b a same h')
+
+-- ---- with a table as the only buffer
+module _ {s table : List ℕ} (bytes : Bytes s) where
+  pub table_short : length table < 2048 → {r : Rejected} → r ≡ unread (fault_at ShortBuffer 0) → CheckTableAs s table (answer_of (checking_by (Err r))) table
+  table_short l e = record { bytes = bytes; says = short l (ap (λ (x : Rejected). answer_of (checking_by (Err x))) e) refl }
+
+  pub table_refused : {f : FaultAt} → 2048 ≤ length table → Err f ≡ scan (cut s) 0 at_start → (r : Result Counts Rejected) → IsErrAnd r (λ e. e ≡ unread f)
+      → CheckTableAs s table (answer_of (checking_by r)) table
+  table_refused {f} l e r h =
+      rw (error_is r h) (table-says (refused_of bytes e) l (sym (when_faulty s (λ code place. table) (λ b. table_of b table) (refused s f (sym e)))))
+
+  pub table_judged : {st : State} (e : Ok st ≡ scan (cut s) 0 at_start) {table' : List ℕ} → 2048 ≤ length table
+      → ((b : Book) → AllowedBook b → bytes_of b ≡ s → table' ≡ table_of b table)
+      → (r : Result Counts Rejected) → BookJudged s (tabled st.n st.m table') st.items r → CheckTableAs s table (answer_of (checking_by r)) table'
+  table_judged e h t r j =
+      let k = g bytes e in
+      let q = t k.book k.allowed k.bytes in
+      table-says (judged_of bytes e (device-read k table h q) r j) h (q ∙ sym (when_fine s _ _ k.parsed))

@@ -15,9 +15,10 @@ use Rattle.moves.specs.Moves.{moved}
 use Rattle.book.specs.Book.{Book, device_of, AllowedBook, bytes_of, items_of}
 use Rattle.book.specs.Faults.{code_of}
 use Rattle.book.specs.Lent.{Lent, sizes}
-use Rattle.reader.specs.declared.Reading.{Reading}
 use Rattle.reader.specs.Reads.{refusal, done}
 use Rattle.reader.specs.Contract.{book_by, filled_by}
+use Rattle.book.specs.declared.fault.FaultAt.{FaultAt}
+use Rattle.checker.specs.declared.Counts.{Counts}
 use Rattle.checker.specs.declared.Checking.{Checking}
 use Rattle.checker.specs.declared.TableChecking.{TableChecking}
 use Rattle.checker.specs.declared.Rejected.{Rejected}
@@ -26,6 +27,15 @@ use Rattle.checker.specs.declared.Reason.TheVariants.{NoReversePlan, NotEffectiv
 use Rattle.checker.specs.Reasons.{fault_of}
 use Rattle.checker.specs.Checks.{place_of, with_units}
 use Rattle.checker.specs.TableChecks.{TableChecks}
+
+-- a book with a fault: no unit is made
+abbrev pub unread : FaultAt → Rejected
+unread at = record { at = at; units = 0 }
+
+-- what checking answers C, as its result is
+abbrev pub checking_by : Result Counts Rejected → Checking
+checking_by (Ok b) = record { code = 0; place = 0; n = b.n; m = b.m; items = b.items; units = b.units }
+checking_by (Err r) = with_units (refusal (code_of r.at.fault) r.at.place) r.units
 
 -- what a reverse run answers: that it arrives, else the number of commands that were not applied, those behind the one that couldn't be carried out
 unfoldable pub back_of : Device → ℕ → List ℕ → ℕ → Result (Unit {0}) ℕ
@@ -69,14 +79,15 @@ abbrev pub on_judgement : {A : Type 0} → Result ℕ Rejected → (ℕ → ℕ 
 on_judgement (Ok units) refuse fine = fine
 on_judgement (Err r) refuse fine = refuse (code_of r.at.fault) r.at.place
 
--- the answer with the judgement of the items, of a book that was read
-abbrev pub answer_of : Reading → Result ℕ Rejected → Checking
-answer_of found (Ok units) = with_units found units
-answer_of found (Err r) = with_units (refusal (code_of r.at.fault) r.at.place) r.units
-
 -- of a book that was read: the code for its first wrong item, at that item's place, else `fine`
 abbrev pub judged_by : {A : Type 0} → (ℕ → ℕ → A) → (Book → A) → Book → A
 judged_by refuse fine b = on_judgement (judgement_of b) refuse (fine b)
+
+-- the contract of `judge_book`: book s, the device d that is lent, the number of its items, answer r
+abbrev pub BookJudged : List ℕ → Device → ℕ → Result Counts Rejected → Type 0
+BookJudged s d items r =
+    (b : Book) → AllowedBook b → bytes_of b ≡ s → d ≡ device_of b → items ≡ length (items_of b)
+    → checking_by r ≡ with_units (judged_by refusal done b) (units_of b)
 
 -- `refuse` with the first code and its place, `fine` with an accepted book
 unfoldable pub check_by : {A : Type 0} → List ℕ → (ℕ → ℕ → A) → (Book → A) → A

@@ -6,11 +6,10 @@ ghost use Rattle.octets.specs.Le.{bytes_le};
 ghost use Rattle.book.specs.Book.{WellFormed};
 ghost use Rattle.book.specs.Lent.{lent};
 ghost use Rattle.checker.specs.Reasons.{fault_of};
-ghost use Rattle.checker.specs.Checks.{with_units};
-ghost use Rattle.checker.specs.Contract.{back_of, returns_in, wrong_for, answer_of, JudgedAs, CheckAs, CheckSmallAs, CheckTableAs};
+ghost use Rattle.checker.specs.TableChecks.{answer_of};
+ghost use Rattle.checker.specs.Contract.{unread, checking_by, back_of, returns_in, wrong_for, JudgedAs, BookJudged, CheckAs, CheckSmallAs, CheckTableAs};
 
 use book::{Fault, FaultAt};
-use reader::Reading;
 use states::{Moved, Outcomes, StateSet, Tabled};
 
 // Why an item is not accepted.
@@ -40,6 +39,31 @@ pub struct Rejected {
     pub units: u64,
 }
 
+impl From<FaultAt> for Rejected {
+    ghost from_gives = { λ at rejected. rejected ≡ unread at };
+
+    fn from(at: FaultAt) -> Rejected {
+        Rejected { at, units: 0 }
+    }
+}
+
+impl From<Rejected> for FaultAt {
+    ghost from_gives = { λ rejected at. at ≡ rejected.at };
+
+    fn from(rejected: Rejected) -> FaultAt {
+        rejected.at
+    }
+}
+
+// What an accepted book has: the numbers of its states, commands and items; and the units made.
+#[derive(Clone, Copy, Debug, PartialEq, Eq)]
+pub struct Counts {
+    pub n: u64,
+    pub m: u64,
+    pub items: u64,
+    pub units: u64,
+}
+
 // What checking answers: the code and its place; n, m and the number of items, each 0 on a refusal; the units made, 0 where no item was judged.
 #[repr(C)]
 #[derive(Drop)]
@@ -52,6 +76,31 @@ pub struct Checking {
     pub units: u64,
 }
 
+impl From<Result<Counts, Rejected>> for Checking {
+    ghost from_gives = { λ checked checking. checking ≡ checking_by checked };
+
+    fn from(checked: Result<Counts, Rejected>) -> Checking {
+        match checked {
+            Ok(Counts { n, m, items, units }) => Checking {
+                code: 0,
+                place: 0,
+                n,
+                m,
+                items,
+                units,
+            },
+            Err(Rejected { at, units }) => Checking {
+                code: at.fault.into(),
+                place: at.place,
+                n: 0,
+                m: 0,
+                items: 0,
+                units,
+            },
+        }
+    }
+}
+
 // What checking with a table as the only buffer answers: the code and its place; n and m, each 0 on a refusal.
 #[derive(Drop)]
 pub struct TableChecking {
@@ -59,6 +108,21 @@ pub struct TableChecking {
     pub place: u64,
     pub n: u64,
     pub m: u64,
+}
+
+impl From<Result<Counts, Rejected>> for TableChecking {
+    ghost from_gives = { λ checked checking. checking ≡ answer_of (checking_by checked) };
+
+    fn from(checked: Result<Counts, Rejected>) -> TableChecking {
+        let Checking {
+            code,
+            place,
+            n,
+            m,
+            ..
+        } = checked.into();
+        TableChecking { code, place, n, m }
+    }
 }
 
 // A reverse run of the `left` commands that are the lowest bytes of `rest`: no command left and the goal alone in the set, or a next command that every
@@ -141,111 +205,92 @@ fn wrong(at: usize, why: Reason, units: u64) -> Rejected
     ensures { result ≡ wrong_for at why units }
 {
     Rejected {
-        at: FaultAt {
-            fault: why.into(),
-            place: at as u64,
-        },
+        at: Fault::from(why).at(at as u64),
         units,
     }
 }
 
-// An answer of reading with the units made.
-fn with_units(found: Reading, units: u64) -> Checking
-    ensures { result ≡ with_units found units }
+// Judges the items of a book that was read and has so many.
+fn judge_book<D: Outcomes>(book: &[u8], device: &D, items: u64) -> Result<Counts, Rejected>
+    requires { ((D.device device.now).n ≤ 64) × ((D.device device.now).m ≤ 32) × WellFormed book.now }
+    ensures { BookJudged book.now (D.device device.now) items result }
 {
-    Checking {
-        code: found.code,
-        place: found.place,
-        n: found.n,
-        m: found.m,
-        items: found.items,
-        units: units,
-    }
+    let units = judge_items(book, device)?;
+    Ok(Counts {
+        n: device.n(),
+        m: device.m(),
+        items,
+        units,
+    })
 }
 
-// The answer for a book that was read: the judgement of its items, with the units made.
-fn answer(found: Reading, judged: Result<u64, Rejected>) -> Checking
-    ensures { result ≡ answer_of found judged }
-{
-    match judged {
-        Ok(units) => with_units(found, units),
-        Err(wrong) => with_units(
-            reader::refused(wrong.at.fault.into(), wrong.at.place),
-            wrong.units,
-        ),
-    }
-}
-
-// Reads a book, and judges each of its items: the code of the first one that is not accepted, at the place of its record; the units made.
-pub fn check(book: &[u8], table: &mut [u64], slots: &mut [u8], weights: &mut [u16]) -> Checking
-    ensures { CheckAs book.now (lent table.old slots.old weights.old) result
+// Reads a book into the lent buffers, and judges each of its items: the first one that is not accepted, at the place of its record; the units made.
+pub fn check_into(
+    book: &[u8],
+    table: &mut [u64],
+    slots: &mut [u8],
+    weights: &mut [u16],
+) -> Result<Counts, Rejected>
+    ensures { CheckAs book.now (lent table.old slots.old weights.old) (checking_by result)
         (lent table.new slots.new weights.new) }
 {
-    let found = reader::read(book, table, slots, weights);
-    if found.code != 0 {
-        return with_units(found, 0);
-    }
+    let end = reader::read_into(book, table, slots, weights)?;
     let device = Tabled {
         table,
-        n: found.n,
-        m: found.m,
+        n: end.n,
+        m: end.m,
     };
-    let judged = judge_items(book, &device);
-    answer(found, judged)
+    judge_book(book, &device, end.items)
 }
 
 // The same with a scratch of at least 64 masks in place of the buffers. Where the book was read the scratch holds the index of its moves.
-pub fn check_small(book: &[u8], scratch: &mut [u64]) -> Checking
-    ensures { CheckSmallAs book.now scratch.old result scratch.new }
+pub fn check_in_scratch(book: &[u8], scratch: &mut [u64]) -> Result<Counts, Rejected>
+    ensures { CheckSmallAs book.now scratch.old (checking_by result) scratch.new }
 {
-    let found = reader::reading_of(book);
-    if found.code != 0 {
-        return with_units(found, 0);
-    }
+    let end = reader::judge(book)?;
     moves::index(book, scratch);
     let device = Moved {
         book,
         index: scratch,
-        n: found.n,
-        m: found.m,
+        n: end.n,
+        m: end.m,
     };
-    let judged = judge_items(book, &device);
-    answer(found, judged)
+    judge_book(book, &device, end.items)
 }
 
 // The same with a table of at least 2,048 entries as the only buffer.
-pub fn check_table(book: &[u8], table: &mut [u64]) -> TableChecking
-    ensures { CheckTableAs book.now table.old result table.new }
+pub fn check_in_table(book: &[u8], table: &mut [u64]) -> Result<Counts, Rejected>
+    ensures { CheckTableAs book.now table.old (answer_of (checking_by result)) table.new }
 {
     if table.len() < book::TABLE_LEN {
-        return TableChecking {
-            code: 1,
-            place: 0,
-            n: 0,
-            m: 0,
-        };
+        return Err(Fault::ShortBuffer.at(0).into());
     }
-    let found = reader::reading_of(book);
-    if found.code != 0 {
-        return TableChecking {
-            code: found.code,
-            place: found.place,
-            n: found.n,
-            m: found.m,
-        };
-    }
+    let end = reader::judge(book)?;
     reader::fill_table(book, table);
     let device = Tabled {
         table,
-        n: found.n,
-        m: found.m,
+        n: end.n,
+        m: end.m,
     };
-    let judged = judge_items(book, &device);
-    let judged = answer(found, judged);
-    TableChecking {
-        code: judged.code,
-        place: judged.place,
-        n: judged.n,
-        m: judged.m,
-    }
+    judge_book(book, &device, end.items)
+}
+
+// Each of the three as C is answered: of a book that is not accepted, the code of its fault or of its first wrong item, and the place.
+pub fn check(book: &[u8], table: &mut [u64], slots: &mut [u8], weights: &mut [u16]) -> Checking
+    ensures { CheckAs book.now (lent table.old slots.old weights.old) result
+        (lent table.new slots.new weights.new) }
+{
+    check_into(book, table, slots, weights).into()
+}
+
+pub fn check_small(book: &[u8], scratch: &mut [u64]) -> Checking
+    ensures { CheckSmallAs book.now scratch.old result scratch.new }
+{
+    check_in_scratch(book, scratch).into()
+}
+
+pub fn check_table(book: &[u8], table: &mut [u64]) -> TableChecking
+    ensures { CheckTableAs book.now table.old result table.new }
+{
+    check_in_table(book, table).into()
 }

@@ -5,13 +5,14 @@ use Prim.Native.Nat.{ℕ, ◌*◌, ◌≤◌, ◌<◌}
 use Rattle.base.specs.Lists.{Bytes}
 use Rattle.base.proofs.Picks.{less_yes, less_no}
 use Rattle.reversal.specs.Computed.Units.{largest_from}
-use Rattle.book.specs.declared.State.{State}
-use Rattle.book.specs.declared.Scan.TheVariants.{Read, Fault}
+use Rattle.std.specs.Prelude.{Ok as On, Err}
+use Rattle.book.specs.declared.fault.FaultAt.{FaultAt}
+use Rattle.book.specs.Faults.{code_of}
 use Rattle.book.specs.Book.{Book, items_of}
-use Rattle.book.specs.Parse.{parse}
+use Rattle.book.specs.Parse.{cut, scan, at_start, parse}
 use Rattle.book.specs.Parse.Parsed.{Ok, Refused}
 use Rattle.reader.specs.declared.Sums.{Sums}
-use Rattle.reader.specs.Summing.{SummedUp}
+use Rattle.reader.specs.Summing.{SumsOf}
 use Rattle.reader.proofs.Filling.{found, refused}
 use Rattle.forecast.specs.declared.Forecasted.{Forecasted}
 use Rattle.forecast.specs.Forecasts.{refusal, foreseen}
@@ -36,25 +37,22 @@ module _ (s : List ℕ) (i : ℕ) where
   when_read b e = rw e
 
   -- ---- the contract, way by way
-  module _ (bytes : Bytes s) (x : Sums) (c : SummedUp s x) where
-    pub as_faulty : (code place : ℕ) → x.seen ≡ Fault code place → (r : Forecasted) → r ≡ refusal code place → ForecastAs s i r
-    as_faulty code place e r q =
-        record { bytes = bytes; result = q ∙ sym (when_faulty code place (refused s code place (sym c.seen_is ∙ e))) }
+  module _ (bytes : Bytes s) where
+    pub as_faulty : (f : FaultAt) → Err f ≡ scan (cut s) 0 at_start → (r : Forecasted) → r ≡ refusal (code_of f.fault) f.place → ForecastAs s i r
+    as_faulty f e r q = record { bytes = bytes; result = q ∙ sym (when_faulty (code_of f.fault) f.place (refused s f (sym e))) }
 
-    pub as_long : (st : State) → x.seen ≡ Read st → 32 < i → (r : Forecasted) → r ≡ refusal 9 0 → ForecastAs s i r
-    as_long st e h r q =
-        let f = found s st bytes (sym c.seen_is ∙ e) in
-        record { bytes = bytes; result = q ∙ sym (when_read f.book f.parsed ∙ when_long f.book i h) }
+    module _ (x : Sums) (e : On x.end ≡ scan (cut s) 0 at_start) where
+      pub as_long : 32 < i → (r : Forecasted) → r ≡ refusal 9 0 → ForecastAs s i r
+      as_long h r q = let f = found s x.end bytes (sym e) in record { bytes = bytes; result = q ∙ sym (when_read f.book f.parsed ∙ when_long f.book i h) }
 
-    pub as_fine : (st : State) → x.seen ≡ Read st → i ≤ 32
-        → ForecastAs s i (record { code = 0; place = 0; units = x.units; plan_bytes = i * x.longest; legs = i })
-    as_fine st e h =
-        let f = found s st bytes (sym c.seen_is ∙ e) in
-        let u = c.units_are f.book f.allowed f.bytes in
-        let l = c.longest_is f.book f.allowed f.bytes in
-        record {
-          bytes = bytes;
-          result =
-              ap₂ (λ (units most : ℕ). record { code = 0; place = 0; units = units; plan_bytes = i * most; legs = i }) u l
-              ∙ sym (when_read f.book f.parsed ∙ when_fine f.book i h);
-        }
+      pub as_fine : SumsOf s x → i ≤ 32 → ForecastAs s i (record { code = 0; place = 0; units = x.units; plan_bytes = i * x.longest; legs = i })
+      as_fine c h =
+          let f = found s x.end bytes (sym e) in
+          let u = c.units_are f.book f.allowed f.bytes in
+          let l = c.longest_is f.book f.allowed f.bytes in
+          record {
+            bytes = bytes;
+            result =
+                ap₂ (λ (units most : ℕ). record { code = 0; place = 0; units = units; plan_bytes = i * most; legs = i }) u l
+                ∙ sym (when_read f.book f.parsed ∙ when_fine f.book i h);
+          }

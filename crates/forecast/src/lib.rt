@@ -2,14 +2,15 @@
 #![tactic(auto)]
 
 ghost use Rattle.std.specs.Prelude.{◌≡◌};
+ghost use Rattle.book.specs.Faults.{code_of};
 ghost use Rattle.forecast.specs.Forecasts.{refusal};
 ghost use Rattle.forecast.specs.Contract.{ForecastAs};
 
-use book::Scan;
+use book::{Fault, FaultAt};
 
 // The code and its place; the units of checking, and the plan bytes and legs that no run of i commands exceeds, each 0 on a refusal.
 #[repr(C)]
-#[derive(Drop)]
+#[derive(Clone, Copy, Debug, PartialEq, Eq)]
 pub struct Forecasted {
     pub code: u64,
     pub place: u64,
@@ -19,15 +20,17 @@ pub struct Forecasted {
 }
 
 // A refusal, whose numbers are 0.
-fn refused(code: u64, place: u64) -> Forecasted
-    ensures { result ≡ refusal code place }
-{
-    Forecasted {
-        code: code,
-        place: place,
-        units: 0,
-        plan_bytes: 0,
-        legs: 0,
+impl From<FaultAt> for Forecasted {
+    ghost from_gives = { λ fault forecasted. forecasted ≡ refusal (code_of fault.fault) fault.place };
+
+    fn from(fault: FaultAt) -> Forecasted {
+        Forecasted {
+            code: fault.fault.into(),
+            place: fault.place,
+            units: 0,
+            plan_bytes: 0,
+            legs: 0,
+        }
     }
 }
 
@@ -35,21 +38,18 @@ fn refused(code: u64, place: u64) -> Forecasted
 pub fn forecast(book: &[u8], i: u64) -> Forecasted
     ensures { ForecastAs book.now i result }
 {
-    let sums = reader::sum_up(book);
-    let seen = sums.seen;
-    match seen {
-        Scan::Fault(code, place) => refused(code, place),
-        Scan::Read(_) => {
-            if 32 < i {
-                return refused(9, 0);
-            }
-            Forecasted {
-                code: 0,
-                place: 0,
-                units: sums.units,
-                plan_bytes: i * sums.longest,
-                legs: i,
-            }
-        }
+    let sums = match reader::sum_up(book) {
+        Ok(sums) => sums,
+        Err(fault) => return fault.into(),
+    };
+    if 32 < i {
+        return Fault::WrongRun.at(0).into();
+    }
+    Forecasted {
+        code: 0,
+        place: 0,
+        units: sums.units,
+        plan_bytes: i * sums.longest,
+        legs: i,
     }
 }

@@ -1,6 +1,7 @@
 -- What is stored is the book's table, slots and weights: what is left of its moves, items and weights gives the whole. Assumes nothing.
 use mathlib.Core.Path.{◌≡◌, refl, sym, ap, ap₂, ◌∙◌}
 use mathlib.Core.List.{List, [], ◌∷◌, ◌++◌, map, append-nil}
+use Rattle.std.specs.Prelude.{Ok as On, Err}
 use Prim.Native.Nat.{ℕ, ◌+◌, ◌*◌, ◌≤◌, ◌<◌}
 use native.Mathlib.Numerals.{add-one}
 use native.Mathlib.Omega.{arith}
@@ -13,9 +14,10 @@ use Rattle.octets.proofs.Put.{sets_past, sets_append, sets_part}
 use Rattle.reversal.specs.Reversal.{Item}
 use Rattle.reversal.specs.Chains.{absent, item}
 use Rattle.book.specs.declared.State.{State}
-use Rattle.book.specs.declared.Scan.TheVariants.{Read, Fault}
+use Rattle.book.specs.declared.fault.FaultAt.{FaultAt}
+use Rattle.book.specs.Faults.{code_of}
 use Rattle.book.specs.Book.{Move, Book, AllowedMove, AllowedBook, device_of, frame, framed, move_rec, item_rec, records_of, bytes_of, items_of, items_for}
-use Rattle.book.specs.Parse.{Row, cut_after, cut, weights_in, moves_in, items_in, parse, scan, at_start}
+use Rattle.book.specs.Parse.{Scan, Row, cut_after, cut, weights_in, moves_in, items_in, parse, scan, at_start}
 use Rattle.book.specs.Parse.Row.{End}
 use Rattle.book.specs.Parse.Parsed.{Ok, Refused}
 use Rattle.book.specs.Lent.{slot_of, slots_bytes}
@@ -179,7 +181,7 @@ pub record Found (s : List ℕ) (st : State) : Type 0 where
   pub bytes : bytes_of book ≡ s
   pub result : record { code = 0; place = 0; n = st.n; m = st.m; items = st.items } ≡ done book
 
-pub found : (s : List ℕ) (st : State) → Each (λ x. x < 256) s → scan (cut s) 0 at_start ≡ Read st → Found s st
+pub found : (s : List ℕ) (st : State) → Each (λ x. x < 256) s → scan (cut s) 0 at_start ≡ On st → Found s st
 unfolding parse cut_after
 found s st b e =
     let x : Book = record { n = st.n; m = st.m; weights = weights_in st.m (cut s); moves = moves_in (cut s); items = items_in (cut s) } in
@@ -193,15 +195,15 @@ found s st b e =
       result = rw (count_is x (sym e ∙ whole x a same));
     }
   where
-    whole : (x : Book) → AllowedBook x → bytes_of x ≡ s → scan (cut s) 0 at_start ≡ Read (state_of x)
+    whole : (x : Book) → AllowedBook x → bytes_of x ≡ s → scan (cut s) 0 at_start ≡ On (state_of x)
     whole x a same =
         let row : cut (bytes_of x) ≡ onto (records_of x) End = ap cut (sym (append-nil (bytes_of x))) ∙ cut-book x [] a in
         ap (λ (r : Row). scan r 0 at_start) (sym (ap cut same) ∙ row) ∙ scan_whole x a
 
-    count_is : (x : Book) → Read st ≡ Read (state_of x) → st.items ≡ length (items_for x)
+    count_is : (x : Book) → ◌≡◌ {A = Scan} (On st) (On (state_of x)) → st.items ≡ length (items_for x)
     count_is x q = let y : st ≡ state_of x = cc in ap (λ (z : State). z.items) y
 
 -- a book that is refused
-pub refused : (s : List ℕ) (code place : ℕ) → scan (cut s) 0 at_start ≡ Fault code place → parse s ≡ Refused code place
+pub refused : (s : List ℕ) (f : FaultAt) → scan (cut s) 0 at_start ≡ Err f → parse s ≡ Refused (code_of f.fault) f.place
 unfolding parse
-refused s code place e = rw e
+refused s f e = rw e

@@ -2,6 +2,7 @@
 use mathlib.Core.Path.{◌≡◌, refl, sym, ap, ◌∙◌, subst}
 use mathlib.Core.Bool.{true, false, not}
 use mathlib.Core.List.{List, [], ◌∷◌}
+use Rattle.std.specs.Prelude.{Ok}
 use Prim.Native.Nat.{ℕ, ◌+◌, ◌-◌, ◌*◌, ◌%◌, ◌^◌, ◌≤◌, ◌<◌}
 use native.Mathlib.Omega.{arith}
 use borrow.Author.Tests.{lt-ltb}
@@ -13,10 +14,8 @@ use Rattle.base.specs.Compare.{same}
 use Rattle.base.proofs.Picks.{tests}
 use Rattle.octets.specs.Parts.{le, le_at}
 use Rattle.octets.proofs.LeAt.{le2, halves8}
-use Rattle.book.specs.declared.Kind.TheVariants.{MoveRecord}
-use Rattle.book.specs.declared.MaybeKind.TheVariants.{Known}
+use Rattle.book.specs.declared.kind.Kind.TheVariants.{MoveRecord}
 use Rattle.book.specs.declared.State.{State}
-use Rattle.book.specs.declared.Step.TheVariants.{Go}
 use Rattle.book.specs.Limits.{move_fine, move_with}
 use Rattle.book.specs.Parse.{kind_of, cut, step, scan}
 use Rattle.reader.specs.Judged.{Limits, rec}
@@ -49,7 +48,7 @@ module _ (s : List ℕ) (at : ℕ) (byte : (i : ℕ) → get_or s i 0 < 256) whe
 
 -- ---- where judging goes on
 module _ (s : List ℕ) (at next : ℕ) (st : State) (l : at + 14 ≤ length s) (g : GoodMove s at st.n st.m st.low next) (p : 2 ≤ st.phase) where
-  judged : Go (moved st next) ≡ step st (rec 2 (take (at + 4 + 10 - (at + 4)) (drop (at + 4) s)))
+  judged : Ok (moved st next) ≡ step st (rec 2 (take (at + 4 + 10 - (at + 4)) (drop (at + 4) s)))
   unfolding kind_of same pick
   judged =
       let ten : at + 4 + 10 - (at + 4) ≡ 10 = omega arith in
@@ -58,7 +57,7 @@ module _ (s : List ℕ) (at next : ℕ) (st : State) (l : at + 14 ≤ length s) 
       let es : get_or s (at + 4) 0 ≡ get_or body 0 0 = field 0 (at + 4) (omega arith) (omega arith) in
       let ec : get_or s (at + 5) 0 ≡ get_or body 1 0 = field 1 (at + 5) (omega arith) (omega arith) in
       let em : le_at 8 s (at + 6) ≡ le_at 8 body 2 = ap (λ (k : ℕ). le_at 8 s k) six ∙ ap (λ (t : List ℕ). le (take 8 t)) (sym (drop-drop 2 (at + 4) s)) ∙ past (drop (at + 4) s) in
-      rw (ten, g.next_is) (step_of st 2 body (Known MoveRecord) refl MoveRecord MoveRecord _ refl refl
+      rw (ten, g.next_is) (step_of st 2 body MoveRecord MoveRecord _ refl refl
       (move_goes st body _ _ _ es ec em p
       (length-take-le 10 (drop (at + 4) s) (omega (arith, length-drop (at + 4) s))) g.fine g.rising))
     where
@@ -74,7 +73,7 @@ module _ (s : List ℕ) (at next : ℕ) (st : State) (l : at + 14 ≤ length s) 
   move_onward k =
       let e : at + 4 + 10 ≡ at + 14 = omega arith in
       subst (λ (q : ℕ). Onward s at st (moved st next) q) e
-      (goes s at st 10 2 (standing s at 10 2 (omega arith) (sym g.length_is) (sym g.kind_is) (omega arith)) (Go (moved st next)) judged (moved st next)
+      (goes s at st 10 2 (standing s at 10 2 (omega arith) (sym g.length_is) (sym g.kind_is) (omega arith)) (Ok (moved st next)) judged (moved st next)
       refl (record { n_high = k.n_high; m_high = k.m_high; few = k.few }))
 
 pub passing_onward : {s : List ℕ} {from : ℕ} {st : State} {at : ℕ} {after : State} → Limits st → Passing s from st at after

@@ -2,6 +2,7 @@
 use mathlib.Core.Path.{◌≡◌, refl, sym, ap, ◌∙◌}
 use mathlib.Core.Bool.{true, false, not}
 use mathlib.Core.List.{List}
+use Rattle.std.specs.Prelude.{Result, Ok, Err}
 use Prim.Native.Nat.{ℕ, ◌+◌, ◌-◌, ◌*◌, ◌≤◌, ◌<◌}
 use native.Mathlib.Nat.{mul-le-mul}
 use native.Mathlib.Omega.{arith}
@@ -9,15 +10,13 @@ use lib.ListN.{length, get_or, take, drop}
 use lib.Seq.{drop-drop}
 use Rattle.octets.specs.Parts.{le, le_at}
 use Rattle.base.proofs.Picks.{tests}
-use Rattle.book.specs.declared.Kind.{Kind}
-use Rattle.book.specs.declared.Kind.TheVariants.{MoveRecord}
-use Rattle.book.specs.declared.MaybeKind.{MaybeKind}
-use Rattle.book.specs.declared.MaybeKind.TheVariants.{Known, Unknown}
+use Rattle.book.specs.declared.kind.Kind.{Kind}
+use Rattle.book.specs.declared.kind.Kind.TheVariants.{MoveRecord}
+use Rattle.book.specs.declared.kind.UnknownKind.{UnknownKind}
+use Rattle.book.specs.declared.fault.Fault.TheVariants.{WrongKind}
 use Rattle.book.specs.declared.State.{State}
-use Rattle.book.specs.declared.Step.{Step}
-use Rattle.book.specs.declared.Step.TheVariants.{Go, Stop}
 use Rattle.book.specs.Limits.{move_fine, move_with, item_with}
-use Rattle.book.specs.Parse.{kind_of, move_of, item_of, judged_as, judged, step}
+use Rattle.book.specs.Parse.{Step, kind_of, move_of, item_of, judged_as, judged, step}
 use Rattle.reader.specs.Judged.{Counted, rec}
 
 -- a move's index is small
@@ -33,7 +32,7 @@ module _ (st : State) (body : List ℕ) (state command mask : ℕ) (es : state �
 
   -- every test is passed
   pub move_goes : 2 ≤ st.phase → length body ≡ 10 → move_fine st.n st.m (move_with state command mask) ≡ true → st.low ≤ state * st.m + command
-      → Go (record { phase = 2; n = st.n; m = st.m; low = state * st.m + command + 1; items = st.items }) ≡ judged_as MoveRecord st body
+      → Ok (record { phase = 2; n = st.n; m = st.m; low = state * st.m + command + 1; items = st.items }) ≡ judged_as MoveRecord st body
   move_goes p l f r =
       let g : not (move_fine st.n st.m (move_with state command mask)) ≡ false = ap not f in
       rw move-is (search tests depth 20)
@@ -75,11 +74,11 @@ module _ (body : List ℕ) (k r : ℕ) (ok : Counted body k r) where
   item_is phi psi p q = rw (forward-is, reverse-is, p, phi_is, q, psi_is)
 
 -- ---- a record by its number
-module _ (st : State) (number : ℕ) (body : List ℕ) (x : MaybeKind) (e : x ≡ kind_of number) where
-  pub step-unknown : x ≡ Unknown → Stop 3 ≡ step st (rec number body)
+module _ (st : State) (number : ℕ) (body : List ℕ) where
+  pub step-unknown : {u : UnknownKind} → Err u ≡ kind_of number → Err WrongKind ≡ step st (rec number body)
   unfolding step
-  step-unknown f = ap (λ (y : MaybeKind). judged y st body) (sym f ∙ e)
+  step-unknown e = ap (λ (y : Result Kind UnknownKind). judged y st body) e
 
-  pub step_of : (j k : Kind) (v : Step) → x ≡ Known j → j ≡ k → v ≡ judged_as k st body → v ≡ step st (rec number body)
+  pub step_of : (j k : Kind) (v : Step) → Ok j ≡ kind_of number → j ≡ k → v ≡ judged_as k st body → v ≡ step st (rec number body)
   unfolding step
-  step_of j k v f g h = h ∙ ap (λ (y : MaybeKind). judged y st body) (ap Known (sym g) ∙ (sym f ∙ e))
+  step_of j k v e g h = h ∙ ap (λ (y : Result Kind UnknownKind). judged y st body) (ap Ok (sym g) ∙ e)

@@ -4,7 +4,7 @@ use mathlib.Core.Path.{◌≡◌, refl, sym, ap, ◌∙◌, subst}
 use mathlib.Core.Bool.{Bool, true, false}
 use mathlib.Core.Logic.{⊎_elim}
 use mathlib.Core.List.{List, [], ◌∷◌, ◌++◌, map, append_assoc}
-use Prim.Native.Nat.{ℕ, ◌+◌, ◌*◌, ◌^◌, ◌≤◌, ◌<◌}
+use Prim.Native.Nat.{ℕ, max, ◌+◌, ◌*◌, ◌^◌, ◌≤◌, ◌<◌}
 use native.Mathlib.Nat.{zero-add, mul-le-mul}
 use native.Mathlib.Numerals.{add-one}
 use native.Mathlib.Omega.{arith}
@@ -15,6 +15,9 @@ use lib.ListN.{length, drop, length-drop}
 use lib.Seq.{drop-drop, drop-cons, drop_at}
 use Rattle.base.specs.Lists.{Each}
 use Rattle.base.specs.Masks.{clear_from}
+use Rattle.base.specs.Compare.{less}
+use Rattle.base.proofs.Compare.{less_on, less_off}
+use Rattle.base.proofs.Picks.{pick_elim}
 use Rattle.base.proofs.Parts.{each_append}
 use Rattle.base.proofs.Masks.{clear↔}
 use Rattle.base.proofs.Present.{cardinality-ones}
@@ -29,26 +32,19 @@ use Rattle.octets.proofs.Le.{le-bytes_le}
 use Rattle.book.specs.Book.{Move, Book, AllowedBook, Rec, frame, framed, device_rec, weights_recs, move_rec, item_rec, records_of, bytes_of, items_of}
 use Rattle.book.specs.Refusal.{Small}
 use Rattle.book.specs.declared.State.{State}
-use Rattle.book.specs.declared.Scan.{Scan}
-use Rattle.book.specs.declared.Scan.TheVariants.{Read, Fault}
-use Rattle.book.specs.Parse.{cut, scan, at_start, parse}
+use Rattle.book.specs.Parse.{cut}
 use Rattle.book.specs.Parse.Row.{End, More}
-use Rattle.book.specs.Parse.Parsed.{Ok, Refused}
 use Rattle.book.proofs.Weights.{weights_elim}
 use Rattle.book.proofs.Cut.{AllSmall, cut-frame}
 use Rattle.book.proofs.Scanning.{length-frame, small_records}
-use Rattle.book.proofs.Reading.{parse-bytes}
 use Rattle.items.specs.declared.Parts.{Parts}
 use Rattle.items.specs.Items.{ItemStands, held_in, PartsAt}
 use Rattle.items.proofs.Laws.{allowed, item_is, k-held, r_held}
 use Rattle.items.proofs.Walk.{kind_at, no_kind}
 use Rattle.reader.specs.declared.units.Tally.{Tally}
-use Rattle.reader.specs.Judged.{ScanBounded}
-use Rattle.reader.specs.Turns.{NoneLeft}
 use Rattle.reader.specs.Passing.{Passing}
 use Rattle.reader.specs.Passing.Passing.{none, one}
-use Rattle.reader.specs.Summing.{Within, with_item, Tallied, SummedUp}
-use Rattle.reader.proofs.Filling.{refused}
+use Rattle.reader.specs.Summing.{Within, with_item, Tallied, SumsOf}
 
 -- ---- one record
 module _ (s : List ℕ) (at : ℕ) (r : Rec) (t : List ℕ) (e : drop at s ≡ frame r ++ t) (h : Small r) where
@@ -66,6 +62,10 @@ module _ (s : List ℕ) (at : ℕ) (r : Rec) (t : List ℕ) (e : drop at s ≡ f
   kind_is = kind_at s at r t e ∙ le-bytes_le 2 r.kind h.two_kind
 
 -- ---- what it adds
+larger-max : (a b : ℕ) → max a b ≡ larger a b
+unfolding larger
+larger-max a b = pick_elim (λ (x : ℕ). max a b ≡ x) (less a b) b a (λ t. omega (arith, less_on a b t)) (λ t. omega (arith, less_off a b t))
+
 -- 64 states at most, 255 forward and 255 reverse commands, for any bytes
 pub ones-most : (w : ℕ) → w < 2 ^ 64 → ones w ≤ 64
 ones-most w h = ones-le 64 w h
@@ -90,9 +90,10 @@ module _ (s : List ℕ) (at : ℕ) (t : Tally) (h : Within t) where
         let l = ltb→lt x.psi (2 ^ b.n) ((clear↔ b.n x.psi).1 (allowed q).psi_states) in
         rw (k-held c, r_held c, item_is q, e, ← cardinality-ones b.n x.psi l)
 
-    pub adds_item : le_at 2 s (at + 2) ≡ 3 → t.count < 64 → (l : ℕ) → l ≡ larger t.longest p.r
+    pub adds_item : le_at 2 s (at + 2) ≡ 3 → t.count < 64 → (l : ℕ) → l ≡ max t.longest p.r
         → Tallied s at t (record { count = t.count + 1; units = t.units + ones psi * (p.k + p.r); longest = l })
-    adds_item k few l e =
+    adds_item k few l f =
+        let e : l ≡ larger t.longest p.r = f ∙ larger-max t.longest p.r in
         record {
           within =
               record {
@@ -269,28 +270,8 @@ moves_passed {s} {b} {t = t} (one {at} p l m h) g =
     let e : at + 4 + le_at 2 s at ≡ at + 14 = omega (arith, m.length_is) in
     subst (λ (k : ℕ). Summing s b k t) e (other_passed (moves_passed p g) (λ z. omega (arith, m.kind_is)) (omega arith))
 
--- at the end of the pass; no allowed book has these bytes where a fault is found
-pub summed : (s : List ℕ) (at : ℕ) (t : Tally) (seen : Scan) → Within t → ((b : Book) → AllowedBook b → bytes_of b ≡ s → Summing s b at t)
-    → scan (cut s) 0 at_start ≡ seen → ScanBounded seen → NoneLeft s at seen → SummedUp s (record { seen = seen; units = t.units; longest = t.longest })
-summed s at t (Read st) h g e k n =
-    record {
-      seen_is = sym e;
-      seen_bounded = k;
-      longest_high = h.longest_high;
-      units_are = λ b a q. all_units (g b a q) n;
-      longest_is = λ b a q. all-longest (g b a q) n;
-    }
-summed s at t (Fault code place) h g e k n =
-    record {
-      seen_is = sym e;
-      seen_bounded = k;
-      longest_high = h.longest_high;
-      units_are = λ b a q. absurd (none b a q);
-      longest_is = λ b a q. absurd (none b a q);
-    }
-  where
-    none : (b : Book) → AllowedBook b → bytes_of b ≡ s → ⊥
-    none b a q =
-        let u : Refused code place ≡ Ok b = sym (refused s code place e) ∙ (ap parse (sym q) ∙ parse-bytes b a) in
-        let z : ◌≡◌ {A = ℕ} 0 1 = cc in
-        omega arith
+-- at the end of the pass
+pub summed : (s : List ℕ) (at : ℕ) (t : Tally) (end : State) → Within t → ((b : Book) → AllowedBook b → bytes_of b ≡ s → Summing s b at t)
+    → cut (drop at s) ≡ End → SumsOf s (record { end = end; units = t.units; longest = t.longest })
+summed s at t end h g n =
+    record { longest_high = h.longest_high; units_are = λ b a q. all_units (g b a q) n; longest_is = λ b a q. all-longest (g b a q) n }

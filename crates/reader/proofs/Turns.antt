@@ -1,48 +1,45 @@
 -- One turn of the pass over the records: each way through the code, over plain variables. Assumes nothing.
-use mathlib.Core.Path.{◌≡◌, refl, sym, ap, ◌∙◌, subst}
+use mathlib.Core.Path.{◌≡◌, refl, sym, ap, ◌∙◌}
 use mathlib.Core.List.{List}
+use Rattle.std.specs.Prelude.{Option, Result, Ok, Err, IsErrAnd}
 use Prim.Native.Nat.{ℕ, zero, suc, ◌+◌, ◌-◌, ◌≤◌}
 use native.Mathlib.Omega.{arith}
 use lib.ListN.{length, take, drop, length-take, length-drop}
 use Rattle.octets.specs.Parts.{le_at}
 use Rattle.book.specs.declared.State.{State}
-use Rattle.book.specs.declared.Step.{Step}
-use Rattle.book.specs.declared.Step.TheVariants.{Go, Stop}
-use Rattle.book.specs.declared.Scan.TheVariants.{Read, Fault}
-use Rattle.book.specs.Parse.{Row, cut, step, on_step, at_end, scan}
+use Rattle.book.specs.declared.fault.Fault.{Fault}
+use Rattle.book.specs.declared.fault.Fault.TheVariants.{CutOff}
+use Rattle.book.specs.Parse.{Step, fault_at, Row, cut, step, on_step, at_end, scan}
 use Rattle.book.specs.Parse.Row.{End, Torn}
 use Rattle.book.proofs.CutAt.{cut_whole}
 use Rattle.reader.specs.Judged.{Limits, rec}
-use Rattle.reader.specs.declared.scan.Head.{Head}
-use Rattle.reader.specs.declared.scan.Head.TheVariants.{Whole}
-use Rattle.reader.specs.Turns.{Standing, Stands, Onward}
+use Rattle.reader.specs.Turns.{Standing, Onward, Turned}
+use Rattle.reader.specs.declared.scan.Reached.{Reached}
+
+-- what the exit of a `?` hands on
+pub handed_on : (s : List ℕ) (at : ℕ) (st : State) {f : Fault} (r : Result (Option Reached) Fault) → IsErrAnd r (λ e. e ≡ f)
+    → scan (cut (drop at s)) at st ≡ Err (fault_at f at) → Turned s at st r
+handed_on s at st (Ok x) h e = absurd h
+handed_on s at st (Err x) h e = e ∙ ap (λ (y : Fault). Err (fault_at y at)) (sym h)
 
 pub standing : (s : List ℕ) (at len kind : ℕ) → 4 ≤ length s - at → len ≡ le_at 2 s at → kind ≡ le_at 2 s (at + 2) → len ≤ length s - (at + 4)
     → Standing s at len kind
 standing s at len kind h a b l = record { row = rw (a, b) (cut_whole s at h (rw a at l)); within = omega arith; length_is = a }
 
--- what is told of a head, where it is known
-module _ (s : List ℕ) (at : ℕ) where
-  pub told : {x y : Head} → x ≡ y → Stands s at x → Stands s at y
-  told e h = subst (λ (x : Head). Stands s at x) e h
-
-  pub stood : {x : Head} {len kind : ℕ} → x ≡ Whole len kind → Stands s at x → Standing s at len kind
-  stood e h = told e h
-
 module _ (s : List ℕ) (at : ℕ) (st : State) where
-  pub over_empty : cut (drop at s) ≡ End → st.phase ≡ 0 → scan (cut (drop at s)) at st ≡ Fault 2 at
+  pub over_empty : cut (drop at s) ≡ End → st.phase ≡ 0 → scan (cut (drop at s)) at st ≡ Err (fault_at CutOff at)
   unfolding scan
   over_empty e h = rw (e, h)
 
-  pub over_end : cut (drop at s) ≡ End → (st.phase ≡ 0 → ⊥) → scan (cut (drop at s)) at st ≡ Read st
+  pub over_end : cut (drop at s) ≡ End → (st.phase ≡ 0 → ⊥) → scan (cut (drop at s)) at st ≡ Ok st
   unfolding scan
   over_end e h = rw e (some st.phase h)
     where
-      some : (p : ℕ) → (p ≡ 0 → ⊥) → at_end p at st ≡ Read st
+      some : (p : ℕ) → (p ≡ 0 → ⊥) → at_end p at st ≡ Ok st
       some zero f = absurd (f refl)
       some (suc p) f = refl
 
-  pub over_short : cut (drop at s) ≡ Torn (drop at s) → scan (cut (drop at s)) at st ≡ Fault 2 at
+  pub over_short : cut (drop at s) ≡ Torn (drop at s) → scan (cut (drop at s)) at st ≡ Err (fault_at CutOff at)
   unfolding scan
   over_short e = rw e
 
@@ -61,8 +58,8 @@ module _ (s : List ℕ) (at : ℕ) (st : State) where
         ∙ ap (λ (k : ℕ). on_step (step st (rec kind body)) (λ st'. scan row k st') at) e
         ∙ ap (λ (y : Step). on_step y (λ st'. scan row (at + 4 + len) st') at) (sym (judged ∙ ap (λ (b : List ℕ). step st (rec kind b)) body_is))
 
-    pub goes : (after : State) → x ≡ Go after → Limits after → Onward s at st after (at + 4 + len)
+    pub goes : (after : State) → x ≡ Ok after → Limits after → Onward s at st after (at + 4 + len)
     goes after e l = record { same = rw e at next; limits = l; past = omega arith; within = h.within; place_is = ap (λ (k : ℕ). at + 4 + k) h.length_is }
 
-    pub stops : (code : ℕ) → x ≡ Stop code → scan (cut (drop at s)) at st ≡ Fault code at
-    stops code e = rw e at next
+    pub stops : (f : Fault) → x ≡ Err f → scan (cut (drop at s)) at st ≡ Err (fault_at f at)
+    stops f e = rw e at next

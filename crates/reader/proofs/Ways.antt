@@ -1,16 +1,22 @@
 -- The ways through reading, for the result and the buffers alike, and for the contract. Assumes nothing.
-use mathlib.Core.Path.{◌≡◌, refl, sym, ◌∙◌, subst}
+use mathlib.Core.Path.{◌≡◌, refl, sym, ap, ◌∙◌}
 use mathlib.Core.List.{List}
-use Prim.Native.Nat.{ℕ, ◌<◌}
-use Rattle.base.specs.Lists.{Each}
+use Rattle.std.specs.Prelude.{Ok as On, Err, IsErrAnd}
+use Prim.Native.Nat.{ℕ}
+use Rattle.base.specs.Lists.{Bytes}
 use Rattle.base.specs.Sizes.{LongEnough}
-use Rattle.book.specs.Book.{Book}
+use Rattle.book.specs.declared.State.{State}
+use Rattle.book.specs.declared.fault.FaultAt.{FaultAt}
+use Rattle.book.specs.Book.{Book, AllowedBook, bytes_of}
 use Rattle.book.specs.Lent.{Lent, sizes}
-use Rattle.book.specs.Parse.{parse}
+use Rattle.book.specs.Buffers.{lent_of}
+use Rattle.book.specs.Parse.{Scan, cut, scan, at_start, parse}
 use Rattle.book.specs.Parse.Parsed.{Ok, Refused}
 use Rattle.reader.specs.declared.Reading.{Reading}
 use Rattle.reader.specs.Reads.{refusal, done}
-use Rattle.reader.specs.Contract.{book_by, ReadingOf, filled_by, ReadAs}
+use Rattle.reader.specs.Contract.{book_by, reading_by, ReadingOf, ReadInto, ReadAs}
+use Rattle.reader.specs.Judged.{Limits}
+use Rattle.reader.proofs.Filling.{found, refused}
 
 -- what each way gives, for the result and the buffers alike
 module _ {A : Type 0} (s : List ℕ) (refuse : ℕ → ℕ → A) (found : Book → A) where
@@ -21,24 +27,33 @@ module _ {A : Type 0} (s : List ℕ) (refuse : ℕ → ℕ → A) (found : Book 
   when_fine e = rw e refl
 
 -- ---- what is answered for bytes that are judged
-module _ (s : List ℕ) {r : Reading} (bytes : Each (λ x. x < 256) s) where
-  pub faulty_of : {code place : ℕ} → parse s ≡ Refused code place → r ≡ refusal code place → ReadingOf s r
-  faulty_of e x = record { bytes = bytes; result = x ∙ sym (when_faulty s refusal done e) }
+pub judged_reading : (s : List ℕ) (v : Scan) → Bytes s → v ≡ scan (cut s) 0 at_start → reading_by v ≡ book_by s refusal done
+judged_reading s (On st) bytes e = let f = found s st bytes (sym e) in f.result ∙ sym (when_fine s refusal done f.parsed)
+judged_reading s (Err f) bytes e = sym (when_faulty s refusal done (refused s f (sym e)))
 
-  pub book_of_lem : {b : Book} → parse s ≡ Ok b → r ≡ done b → ReadingOf s r
-  book_of_lem e x = record { bytes = bytes; result = x ∙ sym (when_fine s refusal done e) }
+pub reading_judged : {s : List ℕ} {r : Reading} (v : Scan) → Bytes s → v ≡ scan (cut s) 0 at_start → r ≡ reading_by v → ReadingOf s r
+reading_judged {s} v bytes e q = record { bytes = bytes; result = q ∙ judged_reading s v bytes e }
 
--- the answer for a book, written out
-pub answered : {s : List ℕ} {r : Reading} (b : Book) → r ≡ done b → ReadingOf s r
-    → ReadingOf s (record { code = 0; place = 0; n = r.n; m = r.m; items = r.items })
-answered {r = r} b e c =
-    let same : record { code = 0; place = 0; n = r.n; m = r.m; items = r.items } ≡ r =
-    subst (λ (x : Reading). record { code = 0; place = 0; n = x.n; m = x.m; items = x.items } ≡ x) (sym e) refl in
-    record { bytes = c.bytes; result = same ∙ c.result }
+-- ---- the contracts with buffers
+-- a book with a fault: all untouched
+pub into_fault : {s : List ℕ} {l : Lent} {f : FaultAt} (r : Scan) → Bytes s → LongEnough (sizes l) → IsErrAnd r (λ e. e ≡ f) → Err f ≡ scan (cut s) 0 at_start
+    → ReadInto s l r l
+into_fault (On st) bytes h a e = absurd a
+into_fault {s} {l} (Err x) bytes h a e =
+    let q : ◌≡◌ {A = Scan} (Err x) (scan (cut s) 0 at_start) = ap Err a ∙ e in
+    record { bytes = bytes; short = λ n. absurd (n h); enough = λ _. (q, tt, sym (when_faulty s _ _ (refused s x (sym q)))) }
 
--- ---- the contract, way by way
-pub as_short : {s : List ℕ} {l : Lent} {r : Reading} → Each (λ x. x < 256) s → (LongEnough (sizes l) → ⊥) → r ≡ refusal 1 0 → ReadAs s l r l
-as_short bytes n e = record { bytes = bytes; short = λ _. (e, refl); enough = λ h. absurd (n h) }
+-- one without: the buffers hold it
+pub into_book : {s : List ℕ} {l : Lent} {l' : Lent} (st : State) → Bytes s → LongEnough (sizes l) → On st ≡ scan (cut s) 0 at_start → Limits st
+    → ((b : Book) → AllowedBook b → bytes_of b ≡ s → l' ≡ lent_of b l) → ReadInto s l (On st) l'
+into_book {s} st bytes h e k g =
+    let f = found s st bytes (sym e) in
+    record { bytes = bytes; short = λ n. absurd (n h); enough = λ _. (e, k, g f.book f.allowed f.bytes ∙ sym (when_fine s _ _ f.parsed)) }
 
-pub as_long : {s : List ℕ} {l : Lent} {r : Reading} {l' : Lent} → LongEnough (sizes l) → ReadingOf s r → l' ≡ filled_by s l → ReadAs s l r l'
-as_long h c e = record { bytes = c.bytes; short = λ n. absurd (n h); enough = λ _. (c, e) }
+pub read_as : {s : List ℕ} {l : Lent} {r : Reading} {l' : Lent} (v : Scan) → ReadInto s l v l' → r ≡ reading_by v → ReadAs s l r l'
+read_as v c q =
+    record {
+      bytes = c.bytes;
+      short = λ n. let (e, k) = c.short n in (q ∙ ap reading_by e, k);
+      enough = λ h. let (e, _, k) = c.enough h in (reading_judged v c.bytes e q, k);
+    }

@@ -1,10 +1,6 @@
 -- What the judgement of a record keeps. Assumes nothing: these are definitions.
 use Rattle.std.specs.Prelude.{◌≡◌, List, length, get_or, ℕ, ◌+◌, ◌≤◌}
 use Rattle.book.specs.declared.State.{State}
-use Rattle.book.specs.declared.Step.{Step}
-use Rattle.book.specs.declared.Step.TheVariants.{Go, Stop}
-use Rattle.book.specs.declared.Scan.{Scan}
-use Rattle.book.specs.declared.Scan.TheVariants.{Read, Fault}
 use Rattle.book.specs.Book.{Rec}
 
 -- a state's numbers are within 01's limits
@@ -12,14 +8,6 @@ pub record Limits (st : State) : Type 0 where
   pub n_high : st.n ≤ 64
   pub m_high : st.m ≤ 32
   pub few : st.items ≤ 64
-
-abbrev pub Bounded : Step → Type 0
-Bounded (Go st) = Limits st
-Bounded (Stop code) = Unit {0}
-
-abbrev pub ScanBounded : Scan → Type 0
-ScanBounded (Read st) = Limits st
-ScanBounded (Fault code place) = Unit {0}
 
 -- an item's body of k forward and r reverse commands
 pub record Counted (body : List ℕ) (k r : ℕ) : Type 0 where

@@ -1,16 +1,14 @@
 -- What stands at an offset of a book, and what judging it leaves to judge. Assumes nothing: these are definitions.
-use Rattle.std.specs.Prelude.{◌≡◌, List, ℕ, ◌+◌, ◌≤◌, ◌<◌, length, take, drop}
+use Rattle.std.specs.Prelude.{◌≡◌, List, ℕ, ◌+◌, ◌≤◌, ◌<◌, length, take, drop, Option, None, Some, Result, Ok, Err}
 use Rattle.octets.specs.Parts.{le_at}
 use Rattle.book.specs.declared.State.{State}
-use Rattle.book.specs.declared.Scan.{Scan}
-use Rattle.book.specs.declared.Scan.TheVariants.{Read, Fault}
-use Rattle.book.specs.Parse.{cut, scan}
+use Rattle.book.specs.declared.fault.Fault.{Fault}
+use Rattle.book.specs.declared.fault.Fault.TheVariants.{CutOff}
+use Rattle.book.specs.Parse.{cut, fault_at, scan}
 use Rattle.book.specs.Parse.Row.{End, Torn, More}
 use Rattle.reader.specs.declared.scan.Head.{Head}
-use Rattle.reader.specs.declared.scan.Head.TheVariants.{Over, Short, Whole}
-use Rattle.reader.specs.declared.scan.Turn.{Turn}
-use Rattle.reader.specs.declared.scan.Turn.TheVariants.{Ended, Going}
-use Rattle.reader.specs.Judged.{Limits, ScanBounded, rec}
+use Rattle.reader.specs.declared.scan.Reached.{Reached}
+use Rattle.reader.specs.Judged.{Limits, rec}
 
 -- a record stands at `at`, and what follows it
 pub record Standing (s : List ℕ) (at len kind : ℕ) : Type 0 where
@@ -18,10 +16,11 @@ pub record Standing (s : List ℕ) (at len kind : ℕ) : Type 0 where
   pub within : at + 4 + len ≤ length s
   pub length_is : len ≡ le_at 2 s at
 
-abbrev pub Stands : List ℕ → ℕ → Head → Type 0
-Stands s at Over = cut (drop at s) ≡ End
-Stands s at Short = cut (drop at s) ≡ Torn (drop at s)
-Stands s at (Whole len kind) = Standing s at len kind
+-- the contract of `head_at`: the end of the book, no whole record, or one
+abbrev pub Stands : List ℕ → ℕ → Result (Option Head) Fault → Type 0
+Stands s at (Ok None) = cut (drop at s) ≡ End
+Stands s at (Ok (Some head)) = Standing s at head.len head.kind
+Stands s at (Err f) = (cut (drop at s) ≡ Torn (drop at s)) × (f ≡ CutOff)
 
 -- from `at` in state st the judgement goes on at `place` in state after
 pub record Onward (s : List ℕ) (at : ℕ) (st after : State) (place : ℕ) : Type 0 where
@@ -31,11 +30,8 @@ pub record Onward (s : List ℕ) (at : ℕ) (st after : State) (place : ℕ) : T
   pub within : place ≤ length s
   pub place_is : place ≡ at + 4 + le_at 2 s at
 
--- where reading is at its end, no record is left
-abbrev pub NoneLeft : List ℕ → ℕ → Scan → Type 0
-NoneLeft s at (Read st) = cut (drop at s) ≡ End
-NoneLeft s at (Fault code place) = Unit {0}
-
-abbrev pub Turned : List ℕ → ℕ → State → Turn → Type 0
-Turned s at st (Ended seen) = (scan (cut (drop at s)) at st ≡ seen) × ScanBounded seen × NoneLeft s at seen
-Turned s at st (Going after place) = Onward s at st after place
+-- the contract of `turn_at`: no record is left and all is judged; judging goes on; or it stops with a fault
+abbrev pub Turned : List ℕ → ℕ → State → Result (Option Reached) Fault → Type 0
+Turned s at st (Ok None) = (scan (cut (drop at s)) at st ≡ Ok st) × (cut (drop at s) ≡ End)
+Turned s at st (Ok (Some next)) = Onward s at st next.st next.at
+Turned s at st (Err f) = scan (cut (drop at s)) at st ≡ Err (fault_at f at)

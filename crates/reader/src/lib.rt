@@ -7,23 +7,24 @@ mod scan;
 mod steps;
 mod units;
 
-ghost use Rattle.std.specs.Prelude.{◌≡◌, true};
+ghost use Rattle.std.specs.Prelude.{◌≡◌, true, IfOk};
+ghost use Rattle.book.specs.Faults.{code_of};
 ghost use Rattle.book.specs.Parse.{cut, at_start};
 ghost use Rattle.book.specs.Parse as parse;
 ghost use Rattle.book.specs.Lent.{lent};
-ghost use Rattle.reader.specs.Judged.{ScanBounded};
-ghost use Rattle.reader.specs.Summing.{SummedUp};
+ghost use Rattle.reader.specs.Judged.{Limits};
+ghost use Rattle.reader.specs.Summing.{ended, SummedUp};
 ghost use Rattle.reader.specs.Filling.{TableFilled, SlotsFilled, WeightsFilled};
 ghost use Rattle.reader.specs.Reads.{refusal};
-ghost use Rattle.reader.specs.Contract.{ReadingOf, ReadAs};
+ghost use Rattle.reader.specs.Contract.{reading_at, reading_by, ReadingOf, ReadInto, ReadAs};
 
-use book::{Scan, State};
-use scan::Turn;
+use book::{Fault, FaultAt, State};
+use scan::Reached;
 use units::Tally;
 
 // What reading answers: the code and its place; n, m and the number of items, each 0 on a refusal.
 #[repr(C)]
-#[derive(Drop)]
+#[derive(Clone, Copy, Debug, PartialEq, Eq)]
 pub struct Reading {
     pub code: u64,
     pub place: u64,
@@ -32,28 +33,29 @@ pub struct Reading {
     pub items: u64,
 }
 
-// What judging gives, with the units of the items and the longest reverse among them. Where a fault is found,
-// only that longest is below 256 is promised of these two.
-#[derive(Drop)]
+// What judging gives of a book without a fault: where reading is at its end, the units of the items and the longest reverse among them.
+#[derive(Clone, Copy)]
 pub struct Sums {
-    pub seen: Scan,
+    pub end: State,
     pub units: u64,
     pub longest: u64,
 }
 
 // The pass over a book's records: judges its bytes and, where this is asked for, sums up its items.
-fn pass(book: &[u8], summing: bool) -> Sums
-    ensures seen_value { result.seen ≡ parse.scan (cut book.now) 0 at_start }
-    ensures scan_bounded { ScanBounded result.seen }
+fn pass(book: &[u8], summing: bool) -> Result<Sums, FaultAt>
+    ensures judged { ended result ≡ parse.scan (cut book.now) 0 at_start }
+    ensures bounded { IfOk (ended result) Limits }
     ensures summed_up { summing ≡ true → SummedUp book.now result }
 {
-    let mut at: usize = 0;
-    let mut st = State {
-        phase: 0,
-        n: 0,
-        m: 0,
-        low: 0,
-        items: 0,
+    let mut here = Reached {
+        st: State {
+            phase: 0,
+            n: 0,
+            m: 0,
+            low: 0,
+            items: 0,
+        },
+        at: 0,
     };
     let mut tally = Tally {
         count: 0,
@@ -61,41 +63,39 @@ fn pass(book: &[u8], summing: bool) -> Sums
         longest: 0,
     };
     loop {
-        let reached = passing::past_moves(book, at, st);
-        st = reached.st;
-        at = reached.at;
-        let next = scan::turn_at(book, at, st);
-        match next {
-            Turn::Ended(seen) => {
-                return Sums {
-                    seen: seen,
+        here = passing::past_moves(book, here);
+        match scan::turn_at(book, here) {
+            Ok(Some(next)) => {
+                tally = units::with_record(book, here.at, tally, summing);
+                here = next;
+            }
+            Ok(None) => {
+                return Ok(Sums {
+                    end: here.st,
                     units: tally.units,
                     longest: tally.longest,
-                };
+                });
             }
-            Turn::Going(after, place) => {
-                tally = units::with_record(book, at, tally, summing);
-                st = after;
-                at = place;
+            Err(fault) => {
+                return Err(fault.at(here.at as u64));
             }
         }
     }
 }
 
 // Judges the bytes of a book and sums up its items in the same pass.
-pub fn sum_up(book: &[u8]) -> Sums
+pub fn sum_up(book: &[u8]) -> Result<Sums, FaultAt>
     ensures { SummedUp book.now result }
 {
     pass(book, true)
 }
 
 // Judges the bytes of a book with no buffer lent: the first fault, or where reading is at its end.
-pub fn judge(book: &[u8]) -> Scan
+pub fn judge(book: &[u8]) -> Result<State, FaultAt>
     ensures value { result ≡ parse.scan (cut book.now) 0 at_start }
-    ensures scan_bounded { ScanBounded result }
+    ensures bounded { IfOk result Limits }
 {
-    let sums = pass(book, false);
-    sums.seen
+    Ok(pass(book, false)?.end)
 }
 
 // Fills the table from the bytes of an allowed book; gives the place of its first item. Other bytes leave something or other in it.
@@ -162,11 +162,44 @@ pub fn refused(code: u64, place: u64) -> Reading
     ensures { result ≡ refusal code place }
 {
     Reading {
-        code: code,
-        place: place,
+        code,
+        place,
         n: 0,
         m: 0,
         items: 0,
+    }
+}
+
+impl From<FaultAt> for Reading {
+    ghost from_gives = { λ fault reading. reading ≡ refusal (code_of fault.fault) fault.place };
+
+    fn from(fault: FaultAt) -> Reading {
+        refused(fault.fault.into(), fault.place)
+    }
+}
+
+impl From<State> for Reading {
+    ghost from_gives = { λ end reading. reading ≡ reading_at end };
+
+    fn from(end: State) -> Reading {
+        Reading {
+            code: 0,
+            place: 0,
+            n: end.n,
+            m: end.m,
+            items: end.items,
+        }
+    }
+}
+
+impl From<Result<State, FaultAt>> for Reading {
+    ghost from_gives = { λ judged reading. reading ≡ reading_by judged };
+
+    fn from(judged: Result<State, FaultAt>) -> Reading {
+        match judged {
+            Ok(end) => end.into(),
+            Err(fault) => fault.into(),
+        }
     }
 }
 
@@ -174,47 +207,36 @@ pub fn refused(code: u64, place: u64) -> Reading
 pub fn reading_of(book: &[u8]) -> Reading
     ensures { ReadingOf book.now result }
 {
-    let seen = judge(book);
-    match seen {
-        Scan::Fault(code, place) => refused(code, place),
-        Scan::Read(st) => Reading {
-            code: 0,
-            place: 0,
-            n: st.n,
-            m: st.m,
-            items: st.items,
-        },
-    }
+    judge(book).into()
 }
 
-// Reads a book into a table of at least 2,048 entries, slots of at least 2,176 bytes and at least 32 weights. Nothing is filled before the last
-// record is judged.
+// Reads a book into a table of at least 2,048 entries, slots of at least 2,176 bytes and at least 32 weights: the first fault, or where reading is at
+// its end. Nothing is filled before the last record is judged.
+pub fn read_into(
+    book: &[u8],
+    table: &mut [u64],
+    slots: &mut [u8],
+    weights: &mut [u16],
+) -> Result<State, FaultAt>
+    ensures { ReadInto book.now (lent table.old slots.old weights.old) result (lent table.new slots.new weights.new) }
+{
+    if table.len() < book::TABLE_LEN
+        || slots.len() < book::SLOTS_LEN
+        || weights.len() < book::WEIGHTS_LEN
+    {
+        return Err(Fault::ShortBuffer.at(0));
+    }
+    let end = judge(book)?;
+    let first = fill_table(book, table);
+    fill_slots(book, first, slots);
+    fill_weights(book, weights);
+    Ok(end)
+}
+
+// The same, as C is answered.
 pub fn read(book: &[u8], table: &mut [u64], slots: &mut [u8], weights: &mut [u16]) -> Reading
     ensures { ReadAs book.now (lent table.old slots.old weights.old) result
         (lent table.new slots.new weights.new) }
 {
-    if table.len() < book::TABLE_LEN {
-        return refused(1, 0);
-    }
-    if slots.len() < book::SLOTS_LEN {
-        return refused(1, 0);
-    }
-    if weights.len() < book::WEIGHTS_LEN {
-        return refused(1, 0);
-    }
-    let found = reading_of(book);
-    if found.code != 0 {
-        return found;
-    }
-    let first = fill_table(book, table);
-    fill_slots(book, first, slots);
-    fill_weights(book, weights);
-    // Code and place as constants: they are not kept while the buffers are filled.
-    Reading {
-        code: 0,
-        place: 0,
-        n: found.n,
-        m: found.m,
-        items: found.items,
-    }
+    read_into(book, table, slots, weights).into()
 }

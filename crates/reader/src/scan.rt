@@ -4,63 +4,56 @@ ghost use Rattle.reader.specs.Judged.{Limits};
 ghost use Rattle.reader.specs.Turns.{Stands, Turned};
 
 use crate::steps;
-use book::{Scan, State, Step};
+use book::{Fault, State};
 
-// What stands at an offset.
-#[derive(Drop)]
-pub enum Head {
-    // The end of the book.
-    Over,
-    // No whole record.
-    Short,
-    // A record: the length of its body, and its kind.
-    Whole(usize, u64),
+// A record's first four bytes: the length of its body, and its kind's number.
+#[derive(Clone, Copy)]
+pub struct Head {
+    pub len: usize,
+    pub kind: u64,
 }
 
-fn head_at(s: &[u8], at: usize) -> Head
+// The head of the record at an offset, or none at the end of the book.
+fn head_at(s: &[u8], at: usize) -> Result<Option<Head>, Fault>
     ensures { Stands s.now at result }
 {
     let n = s.len();
     if n <= at {
-        return Head::Over;
+        return Ok(None);
     }
     if n - at < 4 {
-        return Head::Short;
+        return Err(Fault::CutOff);
     }
     let len = octets::u16_at(s, at) as usize;
     if n - (at + 4) < len {
-        return Head::Short;
+        return Err(Fault::CutOff);
     }
-    Head::Whole(len, octets::u16_at(s, at + 2))
+    let kind = octets::u16_at(s, at + 2);
+    Ok(Some(Head { len, kind }))
 }
 
-// Where a record leads: all is judged, or on from another state and place.
-#[derive(Drop)]
-pub enum Turn {
-    Ended(Scan),
-    Going(State, usize),
+// Where reading is.
+#[derive(Clone, Copy)]
+pub struct Reached {
+    pub st: State,
+    pub at: usize,
 }
 
-// One record judged.
-pub(crate) fn turn_at(s: &[u8], at: usize, st: State) -> Turn
-    requires { Limits st × (at ≤ length s.now) }
-    ensures { Turned s.now at st result }
+// Where judging the record at a place leads, or none at the end of the book.
+pub(crate) fn turn_at(s: &[u8], here: Reached) -> Result<Option<Reached>, Fault>
+    requires { Limits here.st × (here.at ≤ length s.now) }
+    ensures { Turned s.now here.at here.st result }
 {
-    let head = head_at(s, at);
-    match head {
-        Head::Over => {
-            if st.phase == 0 {
-                return Turn::Ended(Scan::Fault(2, at as u64));
-            }
-            Turn::Ended(Scan::Read(st))
-        }
-        Head::Short => Turn::Ended(Scan::Fault(2, at as u64)),
-        Head::Whole(len, kind) => {
-            let step = steps::record_step(st, kind, &s[at + 4..at + 4 + len]);
-            match step {
-                Step::Go(next) => Turn::Going(next, at + 4 + len),
-                Step::Stop(code) => Turn::Ended(Scan::Fault(code, at as u64)),
-            }
-        }
-    }
+    let Some(head) = head_at(s, here.at)? else {
+        // An empty book is cut off.
+        return if here.st.phase == 0 {
+            Err(Fault::CutOff)
+        } else {
+            Ok(None)
+        };
+    };
+    let body = here.at + 4;
+    let end = body + head.len;
+    let st = steps::record_step(here.st, head.kind, &s[body..end])?;
+    Ok(Some(Reached { st, at: end }))
 }

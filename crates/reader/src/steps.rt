@@ -1,52 +1,33 @@
 // The judgement of one record.
-ghost use Rattle.std.specs.Prelude.{◌≡◌};
-ghost use Rattle.book.specs.declared.Kind.TheVariants.{DeviceRecord, WeightsRecord, MoveRecord, ItemRecord};
+ghost use Rattle.std.specs.Prelude.{◌≡◌, IfOk};
+ghost use Rattle.book.specs.declared.kind.Kind.TheVariants.{DeviceRecord, WeightsRecord, MoveRecord, ItemRecord};
 ghost use Rattle.book.specs.Book.{all_one};
 ghost use Rattle.book.specs.Limits.{weights_fine, fields_fine};
-ghost use Rattle.book.specs.Parse.{kind_of, weights_of, item_of, judged_as, step};
-ghost use Rattle.reader.specs.Judged.{Limits, Bounded, Counted, rec};
+ghost use Rattle.book.specs.Parse.{weights_of, item_of, judged_as, step};
+ghost use Rattle.reader.specs.Judged.{Limits, Counted, rec};
 
-use book::{Kind, MaybeKind, State, Step};
-
-// The kind with this number.
-fn kind_of(number: u64) -> MaybeKind
-    ensures { result ≡ kind_of number }
-{
-    if number == 1 {
-        return MaybeKind::Known(Kind::DeviceRecord);
-    }
-    if number == 2 {
-        return MaybeKind::Known(Kind::MoveRecord);
-    }
-    if number == 3 {
-        return MaybeKind::Known(Kind::ItemRecord);
-    }
-    if number == 5 {
-        return MaybeKind::Known(Kind::WeightsRecord);
-    }
-    MaybeKind::Unknown
-}
+use book::{Fault, Kind, State, Step};
 
 // A device record: n and m.
 fn device_step(st: State, body: &[u8]) -> Step
     ensures value { result ≡ judged_as DeviceRecord st body.now }
-    ensures bounded { Bounded result }
+    ensures bounded { IfOk result Limits }
 {
     if st.phase != 0 {
-        return Step::Stop(3);
+        return Err(Fault::WrongKind);
     }
     if body.len() != 2 {
-        return Step::Stop(4);
+        return Err(Fault::WrongLength);
     }
     let n = octets::byte_at(body, 0);
     let m = octets::byte_at(body, 1);
     if !limits::device_fine(n, m) {
-        return Step::Stop(5);
+        return Err(Fault::OutOfRange);
     }
-    Step::Go(State {
+    Ok(State {
         phase: 3,
-        n: n,
-        m: m,
+        n,
+        m,
         low: 0,
         items: 0,
     })
@@ -84,57 +65,49 @@ fn all_one(body: &[u8]) -> bool
 fn weights_step(st: State, body: &[u8]) -> Step
     requires { Limits st }
     ensures value { result ≡ judged_as WeightsRecord st body.now }
-    ensures bounded { Bounded result }
+    ensures bounded { IfOk result Limits }
 {
     if st.phase != 3 {
-        return Step::Stop(3);
+        return Err(Fault::WrongKind);
     }
     if body.len() != 2 * st.m as usize {
-        return Step::Stop(4);
+        return Err(Fault::WrongLength);
     }
     if !weights_fine(body) {
-        return Step::Stop(5);
+        return Err(Fault::OutOfRange);
     }
     if all_one(body) {
-        return Step::Stop(13);
+        return Err(Fault::OnesOnly);
     }
-    Step::Go(State {
-        phase: 2,
-        n: st.n,
-        m: st.m,
-        low: st.low,
-        items: st.items,
-    })
+    Ok(State { phase: 2, ..st })
 }
 
 // A move record: state, command and mask.
 fn move_step(st: State, body: &[u8]) -> Step
     requires { Limits st }
     ensures value { result ≡ judged_as MoveRecord st body.now }
-    ensures bounded { Bounded result }
+    ensures bounded { IfOk result Limits }
 {
     if st.phase < 2 {
-        return Step::Stop(3);
+        return Err(Fault::WrongKind);
     }
     if body.len() != 10 {
-        return Step::Stop(4);
+        return Err(Fault::WrongLength);
     }
     let state = octets::byte_at(body, 0);
     let command = octets::byte_at(body, 1);
     let mask = octets::u64_at(body, 2);
     if !limits::move_fine(state, command, mask, st.n, st.m) {
-        return Step::Stop(5);
+        return Err(Fault::OutOfRange);
     }
     let index = state * st.m + command;
     if index < st.low {
-        return Step::Stop(6);
+        return Err(Fault::NotRising);
     }
-    Step::Go(State {
+    Ok(State {
         phase: 2,
-        n: st.n,
-        m: st.m,
         low: index + 1,
-        items: st.items,
+        ..st
     })
 }
 
@@ -152,34 +125,32 @@ fn item_fine(body: &[u8], k: usize, r: usize, n: u64, m: u64) -> bool
 fn item_step(st: State, body: &[u8]) -> Step
     requires { Limits st }
     ensures value { result ≡ judged_as ItemRecord st body.now }
-    ensures bounded { Bounded result }
+    ensures bounded { IfOk result Limits }
 {
     if st.phase < 1 {
-        return Step::Stop(3);
+        return Err(Fault::WrongKind);
     }
     if 64 <= st.items {
-        return Step::Stop(7);
+        return Err(Fault::TooManyItems);
     }
     if body.len() < 2 {
-        return Step::Stop(4);
+        return Err(Fault::WrongLength);
     }
     let k = octets::byte_at(body, 0);
     let r = octets::byte_at(body, 1);
     if !limits::counts_fine(k, r) {
-        return Step::Stop(5);
+        return Err(Fault::OutOfRange);
     }
     if body.len() != 18 + k as usize + r as usize {
-        return Step::Stop(4);
+        return Err(Fault::WrongLength);
     }
     if !item_fine(body, k as usize, r as usize, st.n, st.m) {
-        return Step::Stop(5);
+        return Err(Fault::OutOfRange);
     }
-    Step::Go(State {
+    Ok(State {
         phase: 1,
-        n: st.n,
-        m: st.m,
-        low: st.low,
         items: st.items + 1,
+        ..st
     })
 }
 
@@ -187,15 +158,12 @@ fn item_step(st: State, body: &[u8]) -> Step
 pub(crate) fn record_step(st: State, number: u64, body: &[u8]) -> Step
     requires { Limits st }
     ensures value { result ≡ step st (rec number body.now) }
-    ensures bounded { Bounded result }
+    ensures bounded { IfOk result Limits }
 {
-    match kind_of(number) {
-        MaybeKind::Unknown => Step::Stop(3),
-        MaybeKind::Known(kind) => match kind {
-            Kind::DeviceRecord => device_step(st, body),
-            Kind::WeightsRecord => weights_step(st, body),
-            Kind::MoveRecord => move_step(st, body),
-            Kind::ItemRecord => item_step(st, body),
-        },
+    match Kind::try_from(number)? {
+        Kind::DeviceRecord => device_step(st, body),
+        Kind::WeightsRecord => weights_step(st, body),
+        Kind::MoveRecord => move_step(st, body),
+        Kind::ItemRecord => item_step(st, body),
     }
 }

@@ -1,9 +1,10 @@
 // The units of the items passed so far, and the longest reverse among them.
 ghost use Rattle.std.specs.Prelude.{◌≡◌, true, ◌≤◌, length};
-ghost use Rattle.reversal.specs.Computed.Units.{larger};
 ghost use Rattle.reader.specs.Summing.{Within, Tallied};
 
-#[derive(Drop)]
+use book::Kind;
+
+#[derive(Clone, Copy)]
 pub struct Tally {
     // The items passed.
     pub count: u64,
@@ -11,25 +12,12 @@ pub struct Tally {
     pub longest: u64,
 }
 
-// The larger of two numbers.
-fn larger_of(a: u64, b: u64) -> u64
-    ensures { result ≡ larger a b }
-{
-    if a < b {
-        return b;
-    }
-    a
-}
-
 // The record at a place, where items are summed up: an item's adds (states in psi) × (k + r), any other adds nothing.
 pub(crate) fn with_record(book: &[u8], at: usize, so_far: Tally, summing: bool) -> Tally
     requires { Within so_far × (at ≤ length book.now) }
     ensures { Within result × (summing ≡ true → Tallied book.now at so_far result) }
 {
-    if !summing {
-        return so_far;
-    }
-    if octets::u16_at(book, at + 2) != 3 {
+    if !summing || octets::u16_at(book, at + 2) != Kind::ItemRecord as u64 {
         return so_far;
     }
     // Judging refuses a 65th item; this test bounds the sum for any bytes.
@@ -41,6 +29,6 @@ pub(crate) fn with_record(book: &[u8], at: usize, so_far: Tally, summing: bool) 
     Tally {
         count: so_far.count + 1,
         units: so_far.units + starts * (item.k + item.r) as u64,
-        longest: larger_of(so_far.longest, item.r as u64),
+        longest: so_far.longest.max(item.r as u64),
     }
 }

@@ -9,11 +9,10 @@ ghost use Rattle.base.specs.Cardinality.{member};
 ghost use Rattle.octets.specs.Le.{bytes_le};
 ghost use Rattle.reversal.specs.Computed.Sets.{ends, runs_back};
 ghost use Rattle.states.specs.StateSets.{set_of};
-ghost use Rattle.book.specs.Faults.{code_of};
-ghost use Rattle.finder.specs.Finds.{refusal, sought};
-ghost use Rattle.finder.specs.Contract.{answer, holds, EndsKept, all_back, Passing, lowest_row, shortest_row, FindAs};
+ghost use Rattle.finder.specs.Finds.{sought};
+ghost use Rattle.finder.specs.Contract.{holds, EndsKept, all_back, Passing, lowest_row, shortest_row, FindAs};
 
-use book::Fault;
+use book::{Fault, FaultAt};
 use states::{StateSet, Tabled};
 use std::marker::Model;
 
@@ -28,20 +27,6 @@ pub struct Found {
     pub place: u64,
     pub count: u64,
     pub commands: [u8; 3],
-}
-
-// What can't be found is refused at no place of the book's; count and commands are 0.
-impl From<Fault> for Found {
-    ghost from_gives = { λ fault found. found ≡ refusal (code_of fault) 0 };
-
-    fn from(fault: Fault) -> Found {
-        Found {
-            code: fault.into(),
-            place: 0,
-            count: 0,
-            commands: [0; 3],
-        }
-    }
 }
 
 // A row of commands as one number, the first of them its lowest byte.
@@ -89,17 +74,29 @@ impl Iterator for Row {
     }
 }
 
-// The answer with a row.
-impl From<Row> for Found {
-    ghost from_gives = { λ row found. found ≡ answer row.count row.number };
+// What finding answers C: the reverse that is found, or the code of the fault and its place.
+impl From<Result<Row, FaultAt>> for Found {
+    ghost use Rattle.finder.specs.Searching.{found_by};
 
-    fn from(row: Row) -> Found {
-        let [first, second, third, ..] = row.number.to_le_bytes();
-        Found {
-            code: 0,
-            place: 0,
-            count: row.count as u64,
-            commands: [first, second, third],
+    ghost from_gives = { λ row found. found ≡ found_by row };
+
+    fn from(row: Result<Row, FaultAt>) -> Found {
+        match row {
+            Ok(Row { count, number }) => {
+                let [first, second, third, ..] = number.to_le_bytes();
+                Found {
+                    code: 0,
+                    place: 0,
+                    count: count as u64,
+                    commands: [first, second, third],
+                }
+            }
+            Err(FaultAt { fault, place }) => Found {
+                code: fault.into(),
+                place,
+                count: 0,
+                commands: [0; 3],
+            },
         }
     }
 }
@@ -317,44 +314,47 @@ impl Search<'_> {
     }
 }
 
+impl Sought<'_> {
+    ghost use Rattle.finder.specs.Searching.{found_by};
+
+    // The row of the reverse, or why there is none. Where no start has an end no item is effective, whatever its reverse.
+    fn row_in(&self, book: &[u8], table: &mut [u64]) -> Result<Row, FaultAt>
+        ensures { FindAs book.now self.now table.old (found_by result) table.new }
+    {
+        let counts = match checker::check_in_table(book, table) {
+            Ok(counts) => counts,
+            Err(rejected) => return Err(rejected.at),
+        };
+        if !self.may_be_held(counts.n, counts.m) {
+            return Err(Fault::NoItem.at(0));
+        }
+        let within = InLimits {
+            device: Tabled {
+                table,
+                n: counts.n,
+                m: counts.m,
+            },
+        };
+        let mut ends = [0; 64];
+        let used = within.keep_ends(self, &mut ends);
+        if used.is_empty() {
+            return Err(Fault::NoReverse.at(0));
+        }
+        let search = Search {
+            within,
+            ends: &ends,
+            used,
+        };
+        search.shortest_row().ok_or(Fault::NoReverse.at(0))
+    }
+}
+
 // Finds the reverse for an item with these forward commands and masks, in a book that is checked first, with a table of at least 2,048 entries as the
-// only buffer. Where no start has an end no item is effective, whatever its reverse.
+// only buffer.
 pub fn find(book: &[u8], forward: &[u8], phi: u64, psi: u64, table: &mut [u64]) -> Found
     ensures { FindAs book.now (sought forward.now phi psi) table.old result
         table.new }
 {
-    let checked = checker::check_table(book, table);
-    if checked.code != 0 {
-        return Found {
-            code: checked.code,
-            place: checked.place,
-            count: 0,
-            commands: [0; 3],
-        };
-    }
     let sought = Sought { forward, phi, psi };
-    if !sought.may_be_held(checked.n, checked.m) {
-        return Found::from(Fault::NoItem);
-    }
-    let within = InLimits {
-        device: Tabled {
-            table,
-            n: checked.n,
-            m: checked.m,
-        },
-    };
-    let mut ends = [0; 64];
-    let used = within.keep_ends(&sought, &mut ends);
-    if used.is_empty() {
-        return Found::from(Fault::NoReverse);
-    }
-    let search = Search {
-        within,
-        ends: &ends,
-        used,
-    };
-    match search.shortest_row() {
-        Some(row) => Found::from(row),
-        None => Found::from(Fault::NoReverse),
-    }
+    sought.row_in(book, table).into()
 }

@@ -6,19 +6,15 @@ use Prim.Native.Nat.{ℕ, zero, suc, ◌+◌, ◌-◌, ◌*◌, ◌≤◌, ◌<�
 use native.Mathlib.Omega.{arith}
 use lib.ListN.{length, get_or, length-append}
 use lib.Seq.{sets, length-sets}
-use Rattle.octets.specs.Le.{bytes_le}
-use Rattle.octets.proofs.Le.{byte_one}
-use Rattle.octets.proofs.Put.{sets_append, first, then}
+use Rattle.octets.specs.Parts.{piece}
+use Rattle.octets.proofs.Put.{sets_append}
 use Rattle.points.specs.Items.{Items, k_of}
 use Rattle.chains.specs.ChainFollowed.{followed, Steps, plan_in, leg_bytes, legs_in, walk, Walkable, Walked, WalkedAs}
 
--- ---- a leg in three stores
-pub leg-stored : (l : List ℕ) (at a u v : ℕ) {d e f : List ℕ} → a < 256 → u < 256 → v < 256 → d ≡ sets l at (bytes_le 1 a)
-    → e ≡ sets d (at + 1) (bytes_le 1 u) → f ≡ sets e (at + 2) (bytes_le 1 v) → f ≡ sets l at (leg_bytes a u v)
-leg-stored l at a u v {d} {e} ha hu hv p q r =
-    (then (then (first l at (a ∷ []) (p ∙ ap (sets l at) (byte_one a ha)))
-    (at + 1) (u ∷ []) refl (q ∙ ap (sets d (at + 1)) (byte_one u hu)))
-    (at + 2) (v ∷ []) refl (r ∙ ap (sets e (at + 2)) (byte_one v hv))).is
+-- a leg's three bytes, from the first on
+pub leg_piece : (a u v : ℕ) → piece 3 (leg_bytes a u v) 0 ≡ leg_bytes a u v
+unfolding piece
+leg_piece a u v = refl
 
 -- ---- the chain
 -- the item at point j, and its number of forward commands

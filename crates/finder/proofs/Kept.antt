@@ -1,51 +1,36 @@
--- The ways through the code that judges what is sought, keeps the ends of the starts and tests a row of commands on them; a row as three commands. Assumes
--- nothing.
+-- The ways through the code that runs the forward commands, keeps the ends of the starts and tests a row of commands on them; a row as three commands.
+-- Assumes nothing.
 use mathlib.Core.Path.{◌≡◌, refl, sym, ap, ◌∙◌}
-use mathlib.Core.Bool.{Bool, true, false, not, false≢true}
+use mathlib.Core.Bool.{Bool, true, false, false≢true}
 use mathlib.Core.Logic.{⊎_elim}
 use mathlib.Core.List.{List, [], ◌∷◌}
-use Prim.Native.Nat.{ℕ, suc, ◌+◌, ◌/◌, ◌%◌, ◌^◌, ◌≤◌, ◌<◌}
-use native.Mathlib.Nat.{mod-lt}
+use Prim.Native.Nat.{ℕ, zero, suc, ◌+◌, ◌/◌, ◌%◌, ◌^◌, ◌≤◌, ◌<◌}
+use native.Mathlib.Nat.{le_of_suc-le-suc, eq-or-lt_of_le}
 use native.Mathlib.Numerals.{add-one}
 use native.Mathlib.Omega.{arith}
-use native.Mathlib.Decide.{ℕ_discrete}
 use borrow.Author.Tests.{lt-ltb}
-use lib.Bits.{bit_and, bit_or}
+use lib.Bits.{bit_and}
 use lib.Dec.{eqb}
 use lib.ListN.{length, get_or, set, length-set, drop, drop_of_length-le}
-use lib.Pow.{pow_pos}
 use lib.Seq.{drop-cons, get_or-set_same, get_or-set_other}
-use Rattle.base.specs.Sets.{In, NoBitFrom}
 use Rattle.base.specs.Tests.{pick, both}
-use Rattle.base.specs.Cardinality.{member}
-use Rattle.base.specs.Masks.{added, without, lowest_in}
+use Rattle.base.specs.Cardinality.{member, present}
+use Rattle.base.specs.Masks.{added}
 use Rattle.base.proofs.Tests.{T_true}
-use Rattle.base.proofs.Masks.{in_member, in_zero, not-member, or_in, one_in, without_self, without_other}
-use Rattle.base.proofs.Added.{one_more_member, one_more_other}
-use Rattle.base.proofs.Trailing.{lowest-there}
-use Rattle.base.proofs.Visiting.{gathered, all_so_far, all_gathered, all_failed}
-use Rattle.base.proofs.Visits.{member-low, lowest-low, left_less, low_same, Left}
+use Rattle.base.proofs.Added.{one_more_other}
+use Rattle.base.proofs.Visiting.{gathered, gathered_is, all_so_far, all_gathered}
 use Rattle.octets.specs.Le.{bytes_le}
 use Rattle.reversal.specs.Device.{Device}
 use Rattle.reversal.specs.Computed.Sets.{reach, ends, start_used}
 use Rattle.states.specs.declared.StateSet.{StateSet}
 use Rattle.states.specs.StateSets.{set_of, after_in}
 use Rattle.states.proofs.Laws.{one_state}
-use Rattle.finder.specs.Finds.{Sought, item_of}
-use Rattle.book.specs.Limits.{counts_fine, fields_fine}
+use Rattle.states.proofs.Row.{Coming, coming_first, coming_next}
 use Rattle.checker.specs.Contract.{returns_in}
 use Rattle.checker.proofs.Items.{reach_on}
-use Rattle.finder.specs.Contract.{holds, EndsKept, all_back, answer}
-
--- ---- what some item may hold
-module _ (n m : ℕ) (q : Sought) where
-  pub holds_not : counts_fine (length q.forward) 0 ≡ false → false ≡ holds n m q
-  unfolding holds pick
-  holds_not e = rw e
-
-  pub holds_fields : counts_fine (length q.forward) 0 ≡ true → fields_fine n m (item_of q []) ≡ holds n m q
-  unfolding holds pick
-  holds_fields e = rw e
+use Rattle.finder.specs.Finds.{Sought, item_of}
+use Rattle.finder.specs.Contract.{EndsKept, all_back, Passing, answer}
+use Rattle.finder.proofs.Passes.{none_pass, mark_yes, mark_no, fails_on}
 
 -- ---- forward commands: those that are left lead on from the set to where all of them lead from the start
 module _ (d : Device) (S : ℕ) (forward : List ℕ) where
@@ -66,148 +51,106 @@ module _ (d : Device) (S : ℕ) (forward : List ℕ) where
   unfolding reach ends
   lead_all w w' j phi l h q = q ∙ ap (λ (v : ℕ). bit_and v phi) (rw (drop_of_length-le forward l) at h)
 
--- ---- starts: those not left are used or not, with their ends stored; those left are in psi
+-- ---- starts: of those in psi, each that has ends is used, and its ends are stored
 module _ (d : Device) (q : Sought) where
+  abbrev pub ends_at : ℕ → ℕ
+  ends_at S = ends d q.forward q.phi S
+
   abbrev used_at : ℕ → Bool
   used_at S = start_used d (item_of q []) S
 
-  pub record Keeping (rest : ℕ) (kept : List ℕ) (used : ℕ) : Type 0 where
-    pub rest-low : rest < 2 ^ d.n
-    pub size : length kept ≡ 64
-    pub low : NoBitFrom d.n used
-    pub done : (S : ℕ) → S < d.n → member rest S ≡ false → member used S ≡ used_at S
-    pub left : (S : ℕ) → S < d.n → member rest S ≡ true → (member q.psi S ≡ true) × (member used S ≡ false)
-    pub stored : (S : ℕ) → S < d.n → member used S ≡ true → get_or kept S 0 ≡ ends d q.forward q.phi S
+  -- one start more: what is stored, and the starts that are used
+  abbrev pub keep_one : List ℕ × ℕ → ℕ → List ℕ × ℕ
+  keep_one a S = pick (eqb (ends_at S) 0) a (set a.0 S (ends_at S), added a.1 S)
 
-  none_used : (S : ℕ) → member 0 S ≡ false
-  none_used S = not-member 0 S (in_zero S)
+  module _ (kept : List ℕ) where
+    -- the starts below k
+    abbrev pub kept_below : ℕ → List ℕ × ℕ
+    kept_below zero = (kept, 0)
+    kept_below (suc k) = pick (member q.psi k) (keep_one (kept_below k) k) (kept_below k)
 
-  pub none_kept : (rest : ℕ) (kept : List ℕ) (none : StateSet) → rest ≡ q.psi % 2 ^ d.n → length kept ≡ 64 → none ≡ set_of 0 → Keeping rest kept none.mask
-  unfolding start_used both
-  none_kept rest kept none e size z =
-      let same : (S : ℕ) → S < d.n → member rest S ≡ member q.psi S = λ S l. ap (λ (w : ℕ). member w S) e ∙ member-low d.n q.psi S l in
-      let empty : (S : ℕ) → member none.mask S ≡ false = λ S. ap (λ (x : StateSet). member x.mask S) z ∙ none_used S in
-      record {
-        rest-low = rw e (mod-lt q.psi (pow_pos d.n));
-        size = size;
-        low = λ S h. absurd (in_zero S (rw (ap (λ (x : StateSet). x.mask) z) at h));
-        done = λ S l f. empty S ∙ rw (sym (same S l) ∙ f);
-        left = λ S l f. (sym (same S l) ∙ f, empty S);
-        stored = λ S l f. absurd (false≢true (sym (empty S) ∙ f));
-      }
+    pub all_kept : gathered keep_one d.n (kept, 0) q.psi ≡ kept_below d.n
+    all_kept = gathered_is keep_one kept_below q.psi d.n (λ k l. refl)
 
-  -- the lowest start that is left, and its ends
-  module _ (few : d.n ≤ 64) (rest : ℕ) (kept : List ℕ) (used : ℕ) (k : Keeping rest kept used) (some : rest ≡ 0 → ⊥) (start at rest' : ℕ)
-      (lowest : start ≡ lowest_in rest) (all-ends : at ≡ ends d q.forward q.phi start) (off : rest' ≡ without rest (lowest_in rest)) where
-    low-start : start < d.n
-    low-start = omega (arith, lowest-low d.n rest few k.rest-low some)
+    record KeptTo (k : ℕ) (a : List ℕ × ℕ) : Type 0 where
+      pub size : length a.0 ≡ 64
+      pub used : Passing k used_at a.1
+      pub stored : (S : ℕ) → S < k → member a.1 S ≡ true → get_or a.0 S 0 ≡ ends_at S
 
-    here : In rest start
-    here = rw lowest (lowest-there rest (omega (arith, low-start)))
-
-    in_psi : (member q.psi start ≡ true) × (member used start ≡ false)
-    in_psi = k.left start low-start (T_true _ (in_member rest start here))
-
-    same_off : rest' ≡ without rest start
-    same_off = off ∙ ap (without rest) (sym lowest)
-
-    gone : member rest' start ≡ false
-    gone = ap (λ (w : ℕ). member w start) same_off ∙ without_self rest start here
-
-    others : (S : ℕ) → (S ≡ start → ⊥) → member rest' S ≡ member rest S
-    others S f = ap (λ (w : ℕ). member w S) same_off ∙ without_other rest start here S f
-
-    -- whether it is used
-    used_here : used_at start ≡ not (eqb at 0)
-    unfolding start_used both
-    used_here = rw (in_psi.0, all-ends)
-
-    module _ (kept' : List ℕ) (used' : ℕ) (size : length kept' ≡ 64) (low : NoBitFrom d.n used') (now : member used' start ≡ not (eqb at 0))
-        (rest-used : (S : ℕ) → (S ≡ start → ⊥) → member used' S ≡ member used S)
-        (now-stored : member used' start ≡ true → get_or kept' start 0 ≡ at)
-        (rest-stored : (S : ℕ) → (S ≡ start → ⊥) → get_or kept' S 0 ≡ get_or kept S 0) where
-      one_kept : Keeping rest' kept' used'
-      one_kept =
+    module _ (k : ℕ) (a : List ℕ × ℕ) (h : KeptTo k a) where
+      -- a start that is not used
+      unused : used_at k ≡ false → KeptTo (suc k) a
+      unused f =
+          let no = mark_no used_at k a.1 h.used f in
           record {
-            rest-low = omega (arith, k.rest-low, left_less d.n rest few k.rest-low some rest' off);
-            size = size;
-            low = low;
-            done = λ S l f. done S l f (ℕ_discrete S start);
-            left = λ S l t. left S l t (ℕ_discrete S start);
-            stored = λ S l t. stored S l t (ℕ_discrete S start);
+            size = h.size;
+            used = no;
+            stored = λ S l t. ⊎_elim (λ (e : S ≡ k). absurd (false≢true (sym f ∙ (rw e at (sym (no.each S l) ∙ t))))) (λ (g : S < k). h.stored S g t)
+                (eq-or-lt_of_le (le_of_suc-le-suc l));
           }
-        where
-          done : (S : ℕ) → S < d.n → member rest' S ≡ false → Dec (S ≡ start) → member used' S ≡ used_at S
-          done S l f (yes e) = rw e (now ∙ sym used_here)
-          done S l f (no e) = rest-used S e ∙ k.done S l (sym (others S e) ∙ f)
 
-          left : (S : ℕ) → S < d.n → member rest' S ≡ true → Dec (S ≡ start) → (member q.psi S ≡ true) × (member used' S ≡ false)
-          left S l t (yes e) = absurd (false≢true (sym gone ∙ (rw e at t)))
-          left S l t (no e) = let (p, u) = k.left S l (sym (others S e) ∙ t) in (p, rest-used S e ∙ u)
+      -- one that is
+      used_one : k < 64 → used_at k ≡ true → KeptTo (suc k) (set a.0 k (ends_at k), added a.1 k)
+      unfolding added pick
+      used_one few t =
+          rw (lt-ltb k 64 few) (
+          record {
+            size = length-set a.0 k (ends_at k) ∙ h.size;
+            used = mark_yes used_at k a.1 h.used t;
+            stored = λ S l u. ⊎_elim (λ (e : S ≡ k). rw e (get_or-set_same a.0 k (ends_at k) 0 (omega (arith, few, h.size))))
+                (λ (g : S < k). get_or-set_other a.0 k S (ends_at k) 0 (λ e. omega (arith, g, e))
+                ∙ h.stored S g (sym (one_more_other a.1 k S (λ e. omega (arith, g, e))) ∙ u)) (eq-or-lt_of_le (le_of_suc-le-suc l));
+          }
+          )
 
-          stored : (S : ℕ) → S < d.n → member used' S ≡ true → Dec (S ≡ start) → get_or kept' S 0 ≡ ends d q.forward q.phi S
-          stored S l t (yes e) = rw e (now-stored (rw e at t) ∙ all-ends)
-          stored S l t (no e) = rest-stored S e ∙ k.stored S l (sym (rest-used S e) ∙ t)
+      kept_next : k < 64 → (b : Bool) → member q.psi k ≡ b → (z : Bool) → eqb (ends_at k) 0 ≡ z
+          → KeptTo (suc k) (pick b (pick z a (set a.0 k (ends_at k), added a.1 k)) a)
+      unfolding start_used both pick
+      kept_next few true e true f = unused (rw (e, f))
+      kept_next few true e false f = used_one few (rw (e, f))
+      kept_next few false e z f = unused (rw e)
 
-    -- it has no end
-    pub start_none : eqb at 0 ≡ true → Keeping rest' kept used
-    start_none z =
-        one_kept kept used k.size k.low (in_psi.1 ∙ sym (ap not z)) (λ S f. refl) (λ t. absurd (false≢true (sym in_psi.1 ∙ t))) (λ S f. refl)
+    kept_to : d.n ≤ 64 → length kept ≡ 64 → (k : ℕ) → k ≤ d.n → KeptTo k (kept_below k)
+    kept_to few size zero l = record { size = size; used = none_pass 0 (λ c h. absurd (omega (arith, h))); stored = λ S h t. absurd (omega (arith, h)) }
+    kept_to few size (suc k) l =
+        kept_next k (kept_below k) (kept_to few size k (omega (arith, l))) (omega (arith, few, l)) (member q.psi k) refl (eqb (ends_at k) 0) refl
 
-    -- it has some, which are stored
-    pub start-some : eqb at 0 ≡ false → (kept' : List ℕ) (used' : StateSet) → kept' ≡ set kept start at → used' ≡ set_of (added used start)
-        → Keeping rest' kept' used'.mask
-    unfolding added pick
-    start-some z kept' used' e u =
-        let more : used'.mask ≡ bit_or used (2 ^ start) = ap (λ (x : StateSet). x.mask) u ∙ rw (lt-ltb start 64 (omega (arith, low-start))) in
-        let now : member used'.mask start ≡ true = ap (λ (w : ℕ). member w start) more ∙ one_more_member used start in
-        one_kept kept' used'.mask (ap length e ∙ length-set kept start at ∙ k.size) (λ S h. low S (rw more at h)) (now ∙ sym (ap not z))
-        (λ S f. ap (λ (w : ℕ). member w S) more ∙ one_more_other used start S f)
-        (λ t. ap (λ (l : List ℕ). get_or l start 0) e ∙ get_or-set_same kept start at 0 (omega (arith, low-start, k.size)))
-        (λ S f. ap (λ (l : List ℕ). get_or l S 0) e ∙ get_or-set_other kept start S at 0 f)
-      where
-        low : (S : ℕ) → In (bit_or used (2 ^ start)) S → S < d.n
-        low S h = ⊎_elim (λ (i : In used S). k.low S i) (λ (i : In (2 ^ start) S). rw (one_in start S i) low-start) (or_in used (2 ^ start) S h)
-
-  pub all-kept : (rest : ℕ) (kept : List ℕ) (used : ℕ) → Keeping rest kept used → rest ≡ 0 → EndsKept d q kept used
-  all-kept rest kept used k z =
-      record {
-        size = k.size;
-        low = k.low;
-        starts = λ S l. k.done S l (ap (λ (w : ℕ). member w S) z ∙ none_used S);
-        stored = λ S l t. k.stored S l (T_true _ t);
-      }
+    pub ends_kept : d.n ≤ 64 → length kept ≡ 64 → (a : List ℕ × ℕ) → a ≡ kept_below d.n → EndsKept d q a.0 a.1
+    ends_kept few size a e =
+        let k = kept_to few size d.n (omega arith) in
+        rw e (
+        record {
+          size = k.size;
+          low = k.used.low;
+          starts = k.used.each;
+          stored = λ S l t. k.stored S l (T_true _ t);
+        }
+        )
 
 -- ---- a row of commands: the starts that are used come back from their ends
 module _ (d : Device) (kept commands : List ℕ) where
   abbrev pub back_at : ℕ → Bool
   back_at S = returns_in d (get_or kept S 0) commands S
 
-  abbrev pub Backing : Bool → ℕ → Type 0
-  Backing whole starts = Left (all_so_far back_at) d.n whole true starts
+  abbrev pub Backing : Bool → List ℕ → Type 0
+  Backing whole starts = Coming (all_so_far back_at) d.n whole true starts
 
-  pub back_start : (starts : ℕ) → starts < 2 ^ d.n → Backing (all_back d kept starts commands) starts
+  pub back_start : (used : ℕ) → d.n ≤ 64 → Backing (all_back d kept used commands) (present 64 (used % 2 ^ d.n))
   unfolding all_back
-  back_start starts low = record { low = low; gives = all_gathered back_at d.n starts }
+  back_start used few = coming_first (all_so_far back_at) d.n used true _ few (all_gathered back_at d.n used)
 
-  -- the starts below n are those that are asked
-  pub back_low : (used starts : ℕ) → starts ≡ used % 2 ^ d.n → all_back d kept starts commands ≡ all_back d kept used commands
-  unfolding all_back
-  back_low used starts e =
-      sym (all_gathered back_at d.n starts)
-      ∙ ap (gathered (all_so_far back_at) d.n true) e
-      ∙ low_same (all_so_far back_at) d.n true used
-      ∙ all_gathered back_at d.n used
+  module _ {whole : Bool} {starts : List ℕ} (b : Backing whole starts) (S : ℕ) (starts' : List ℕ) (split : starts ≡ S ∷ starts') where
+    next : Coming (all_so_far back_at) d.n whole (all_so_far back_at true S) starts'
+    next = coming_next (all_so_far back_at) d.n whole true starts b S starts' split
 
-  -- one that doesn't
-  pub back_fails : (starts : ℕ) {whole : Bool} (S : ℕ) → back_at S ≡ false → Left (all_so_far back_at) d.n whole (all_so_far back_at true S) starts → false ≡ whole
-  unfolding both
-  back_fails starts S f l = sym (all_failed back_at d.n starts) ∙ (rw f at l.gives)
+    -- one that doesn't
+    pub back_fails : back_at S ≡ false → false ≡ whole
+    unfolding both
+    back_fails f = sym (fails_on back_at starts') ∙ (rw f at next.gives)
 
-  pub back_passes : (starts : ℕ) {whole : Bool} (S : ℕ) → back_at S ≡ true → Left (all_so_far back_at) d.n whole (all_so_far back_at true S) starts
-      → Backing whole starts
-  unfolding both
-  back_passes starts S t l = rw t at l
+    pub back_passes : back_at S ≡ true → Backing whole starts'
+    unfolding both
+    back_passes t = rw t at next
 
 -- ---- a row as three commands
 pub answer-is : (count row : ℕ)

@@ -1,119 +1,69 @@
--- The last commands of rows, all found at once: the mask of those that pass, the loops over the states and the starts, and the row that ends with one of
--- them. Assumes nothing.
+-- The last commands of rows, all found at once: the loops over the states and the starts, and the row that ends with one of them. Assumes nothing.
 use mathlib.Core.Path.{◌≡◌, refl, sym, ap, ap₂, ◌∙◌, subst}
 use mathlib.Core.Bool.{Bool, true, false, not}
 use mathlib.Core.Logic.{⊎_elim}
-use mathlib.Core.List.{List, [], ◌∷◌, ◌++◌}
+use mathlib.Core.List.{List, [], ◌∷◌, ◌++◌, foldl}
 use Prim.Native.Nat.{ℕ, zero, suc, ◌+◌, ◌-◌, ◌*◌, ◌/◌, ◌%◌, ◌^◌, ◌≤◌, ◌<◌}
-use native.Mathlib.Nat.{le_of_suc-le-suc, eq-or-lt_of_le, not-suc-le-zero, mul_assoc, pow-suc, mod-lt}
+use native.Mathlib.Nat.{eq-or-lt_of_le, mul_assoc, pow-suc, mod-lt}
+use native.Mathlib.Numerals.{add-one}
 use native.Mathlib.Omega.{arith}
-use lib.Bits.{bit_and, bit_or}
 use lib.Count.{count_trailing_zeros}
 use lib.Dec.{T, eqb, eqb→eq, ltb→lt}
 use lib.ListN.{get_or}
 use lib.Pow.{pow_pos}
+use Rattle.std.specs.Prelude.{Option, Some, None}
+use Rattle.std.specs.Option.{option_or}
 use Rattle.base.specs.Sets.{In, NoBitFrom}
+use Rattle.base.specs.Lists.{Each}
 use Rattle.base.specs.Tests.{pick, both, imp}
 use Rattle.base.specs.Bounded.{all}
-use Rattle.base.specs.Cardinality.{member}
-use Rattle.base.specs.Masks.{clear_from, without, lowest_in}
+use Rattle.base.specs.Cardinality.{member, present}
+use Rattle.base.specs.Masks.{clear_from}
 use Rattle.base.proofs.Tests.{T_true, eq_t, both_l, both_r, both_of, imp_use, imp_of, test_same}
 use Rattle.base.proofs.Bounded.{all_at, all_of}
-use Rattle.base.proofs.Masks.{member_in, in_member, not-member, in_zero, in_one, one_in, or_in, and_in, in_and, union_in, in_union, pick_in, in_pick, alone, nonzero_some, some_nonzero, some-state, below_clear, clear↔, half_member}
-use Rattle.base.proofs.Added.{one_more_member, one_more_other}
+use Rattle.base.proofs.Masks.{member_in, in_member, not-member, in_zero, in_one, one_in, union_in, in_union, pick_in, in_pick, alone, nonzero_some, some_nonzero, some-state, below_clear, clear↔}
 use Rattle.base.proofs.Trailing.{trailing_zeros_lowest}
 use Rattle.base.proofs.Visiting.{gathered, all_so_far, all_gathered, all_failed}
-use Rattle.base.proofs.Visits.{Left, left-next, left-none, left_less, low_same, member-low}
+use Rattle.base.proofs.Visits.{low_same, member-low}
 use Rattle.octets.specs.Le.{bytes_le}
 use Rattle.reversal.specs.Device.{Device}
 use Rattle.reversal.specs.Computed.Sets.{after, able, runs_back}
 use Rattle.states.specs.StateSets.{after_in, able_in}
 use Rattle.states.proofs.Laws.{in_limits_lem, after-limits, able-limits}
+use Rattle.states.proofs.Row.{row_below, each_below}
 use Rattle.checker.specs.Contract.{returns_in}
-use Rattle.finder.specs.declared.Search.{Search}
-use Rattle.finder.specs.declared.Search.TheVariants.{NoRow, Row}
-use Rattle.finder.specs.Contract.{Passing, all_back, on_row, tries, lowest_row}
+use Rattle.finder.specs.Contract.{Passing, all_back, tries, lowest_row}
+use Rattle.finder.proofs.Passes.{passing_same, none_pass, either_not, all-commands, fails_on}
 
--- ---- the mask of the commands that pass
-pub passing_same : {m : ℕ} {f g : ℕ → Bool} {w : ℕ} → Passing m f w → ((c : ℕ) → c < m → f c ≡ g c) → Passing m g w
-passing_same p e = record { low = p.low; each = λ c l. p.each c l ∙ e c l }
-
-pub none_pass : (m : ℕ) {f : ℕ → Bool} → ((c : ℕ) → c < m → f c ≡ false) → Passing m f 0
-none_pass m e = record { low = λ s h. absurd (in_zero s h); each = λ c l. not-member 0 c (in_zero c) ∙ sym (e c l) }
-
-pub either_not : (a : Bool) {b : Bool} → b ≡ false → both a b ≡ false
-unfolding both
-either_not true e = e
-either_not false e = refl
-
--- one command more
-module _ (f : ℕ → Bool) (c w : ℕ) (p : Passing c f w) where
-  pub mark_yes : f c ≡ true → Passing (suc c) f (bit_or w (2 ^ c))
-  mark_yes t =
-      record {
-        low = λ s h. ⊎_elim (λ (i : In w s). omega (arith, p.low s i)) (λ (i : In (2 ^ c) s). omega (arith, one_in c s i)) (or_in w (2 ^ c) s h);
-        each = λ b l. ⊎_elim (λ (e : b ≡ c). rw e (one_more_member w c ∙ sym t))
-            (λ (h : b < c). one_more_other w c b (λ e. omega (arith, h, e)) ∙ p.each b h) (eq-or-lt_of_le (le_of_suc-le-suc l));
-      }
-
-  pub mark_no : f c ≡ false → Passing (suc c) f w
-  mark_no t =
-      record {
-        low = λ s h. omega (arith, p.low s h);
-        each = λ b l. ⊎_elim (λ (e : b ≡ c). rw e (not-member w c (λ h. omega (arith, p.low c h)) ∙ sym t)) (λ (h : b < c). p.each b h)
-            (eq-or-lt_of_le (le_of_suc-le-suc l));
-      }
-
--- those of a mask that pass
-pub pass_of : (m commands w : ℕ) {f : ℕ → Bool} → Passing m f w → Passing m (λ c. both (member commands c) (f c)) (bit_and commands w)
-pass_of m commands w {f} p =
-    record {
-      low = λ s h. p.low s (and_in commands w s h).1;
-      each = λ c l. test_same (member (bit_and commands w) c) (both (member commands c) (f c))
-          (λ t. let (i, j) = and_in commands w c (member_in (bit_and commands w) c t) in
-          both_of (member commands c) (f c) (in_member commands c i) (subst T (p.each c l) (in_member w c j)))
-          (λ t. in_member (bit_and commands w) c (in_and commands w c (member_in commands c (both_l (member commands c) (f c) t))
-          (member_in w c (subst T (sym (p.each c l)) (both_r (member commands c) (f c) t)))));
-    }
-
--- all commands
-pub all-commands : (m c : ℕ) → c < m → member (2 ^ m - 1) c ≡ true
-unfolding member
-all-commands zero c l = absurd (not-suc-le-zero l)
-all-commands (suc m) zero l = let e : (2 ^ suc m - 1) / 2 ^ 0 % 2 ≡ 1 = omega (arith, pow-suc 2 m, pow_pos m) in rw e
-all-commands (suc m) (suc c) l =
-    let e : (2 ^ suc m - 1) / 2 ≡ 2 ^ m - 1 = omega (arith, pow-suc 2 m, pow_pos m) in
-    half_member (2 ^ suc m - 1) c ∙ ap (λ (w : ℕ). member w c) e ∙ all-commands m c (le_of_suc-le-suc l)
-
--- ---- a loop over states: the commands that pass so far, which with the states that are left give those of the whole
+-- ---- a loop over states: the commands that pass so far, which with the states to come give those of the whole
 module _ (g : ℕ → ℕ → Bool) (n m : ℕ) where
-  pub record Asking (whole : ℕ → Bool) (commands rest : ℕ) : Type 0 where
-    pub rest-low : rest < 2 ^ n
+  pub record Asking (whole : ℕ → Bool) (commands : ℕ) (states : List ℕ) : Type 0 where
+    pub below : Each (λ s. s < n) states
     pub low : NoBitFrom m commands
-    pub each : (c : ℕ) → c < m → gathered (all_so_far (g c)) n (member commands c) rest ≡ whole c
+    pub each : (c : ℕ) → c < m → foldl (all_so_far (g c)) (member commands c) states ≡ whole c
 
-  module _ (few : n ≤ 64) (whole : ℕ → Bool) (commands rest : ℕ) (a : Asking whole commands rest) where
-    at : (c : ℕ) → c < m → Left (all_so_far (g c)) n (whole c) (member commands c) rest
-    at c l = record { low = a.rest-low; gives = a.each c l }
+  pub ask_first : (w commands : ℕ) {whole : ℕ → Bool} → n ≤ 64 → NoBitFrom m commands
+      → ((c : ℕ) → c < m → gathered (all_so_far (g c)) n (member commands c) w ≡ whole c) → Asking whole commands (present 64 (w % 2 ^ n))
+  ask_first w commands few low e = rw (row_below n w few) (record { below = each_below n w; low = low; each = e })
 
-    pub ask_next : (rest ≡ 0 → ⊥) → (s rest' : ℕ) → s ≡ lowest_in rest → rest' ≡ without rest (lowest_in rest)
-        → (commands' : ℕ) → Passing m (λ c. both (member commands c) (g c s)) commands' → Asking whole commands' rest'
-    ask_next some s rest' e off commands' p =
+  module _ (whole : ℕ → Bool) (commands : ℕ) (states : List ℕ) (a : Asking whole commands states) where
+    pub ask_next : (s : ℕ) (states' : List ℕ) → states ≡ s ∷ states' → (commands' : ℕ) → Passing m (λ c. both (member commands c) (g c s)) commands'
+        → Asking whole commands' states'
+    ask_next s states' split commands' p =
         record {
-          rest-low = omega (arith, a.rest-low, left_less n rest few a.rest-low some rest' off);
+          below = (rw split at a.below).1;
           low = p.low;
-          each = λ c l. ap (λ (b : Bool). gathered (all_so_far (g c)) n b rest') (p.each c l)
-              ∙ (left-next (all_so_far (g c)) n (whole c) (member commands c) rest (at c l) few some s rest' e off).gives;
+          each = λ c l. ap (λ (b : Bool). foldl (all_so_far (g c)) b states') (p.each c l) ∙ (rw split at (a.each c l));
         }
 
-    pub ask_end : rest ≡ 0 → Passing m whole commands
-    ask_end z = record { low = a.low; each = λ c l. left-none (all_so_far (g c)) n (whole c) (member commands c) rest (at c l) few z }
+    pub ask_end : states ≡ [] → Passing m whole commands
+    ask_end z = record { low = a.low; each = λ c l. rw z at (a.each c l) }
 
     -- no command is left
     pub ask_none : commands ≡ 0 → Passing m whole 0
     ask_none z =
         none_pass m (λ c l. sym (a.each c l)
-        ∙ ap (λ (b : Bool). gathered (all_so_far (g c)) n b rest) (ap (λ (w : ℕ). member w c) z ∙ not-member 0 c (in_zero c)) ∙ all_failed (g c) n rest)
+        ∙ ap (λ (b : Bool). foldl (all_so_far (g c)) b states) (ap (λ (w : ℕ). member w c) z ∙ not-member 0 c (in_zero c)) ∙ fails_on (g c) states)
 
 -- ---- one command: the set is brought back by it where the set has a state, and each leads to the start alone
 module _ (d : Device) (S : ℕ) where
@@ -173,12 +123,13 @@ module _ (d : Device) (S : ℕ) where
   abbrev pub whole_from : ℕ → ℕ → ℕ → Bool
   whole_from commands rest c = gathered (all_so_far (to_start c)) d.n (member commands c) rest
 
-  abbrev pass_from : ℕ → ℕ → ℕ → Bool
+  abbrev pub pass_from : ℕ → ℕ → ℕ → Bool
   pass_from commands set c = both (member commands c) (runs_back d set (c ∷ []) S)
 
   module _ (m commands set rest : ℕ) (e : rest ≡ set % 2 ^ d.n) where
-    pub from_start : NoBitFrom m commands → Asking to_start d.n m (whole_from commands rest) commands rest
-    from_start low = record { rest-low = rw e (mod-lt set (pow_pos d.n)); low = low; each = λ c l. refl }
+    pub from_start : d.n ≤ 64 → NoBitFrom m commands → Asking to_start d.n m (whole_from commands rest) commands (present 64 rest)
+    from_start few low =
+        rw e (ask_first to_start d.n m set commands few low (λ c l. sym (low_same (all_so_far (to_start c)) d.n (member commands c) set)))
 
     pub from_empty : rest ≡ 0 → Passing m (pass_from commands set) 0
     from_empty z = none_pass m (λ c l. either_not (member commands c) (empty_out set c (sym e ∙ z)))
@@ -194,31 +145,30 @@ module _ (d : Device) (S : ℕ) where
         go c false = all_failed (to_start c) d.n rest
 
   -- ---- the commands before it
-  abbrev pub back_with : ℕ → ℕ → ℕ → ℕ → Bool
-  back_with w left rest c = runs_back d w (bytes_le left rest ++ (c ∷ [])) S
+  abbrev pub back_with : ℕ → List ℕ → ℕ → Bool
+  back_with w cs c = runs_back d w (cs ++ (c ∷ [])) S
 
   -- those that are left, from the set, with the last one
-  abbrev pub Behind : (ℕ → Bool) → ℕ → ℕ → ℕ → Type 0
-  Behind whole w left rest = (c : ℕ) → back_with w left rest c ≡ whole c
+  abbrev pub Behind : (ℕ → Bool) → ℕ → List ℕ → Type 0
+  Behind whole w cs = (c : ℕ) → back_with w cs c ≡ whole c
 
-  module _ (hn : d.n ≤ 64) (hm : d.m ≤ 32) (whole : ℕ → Bool) (w left left' rest : ℕ) (e : left ≡ suc left') (h : Behind whole w left rest) where
-    one-command : (c : ℕ) → both (able d (rest % 256) w) (runs_back d (after d (rest % 256) w) (bytes_le left' (rest / 256) ++ (c ∷ [])) S) ≡ whole c
-    unfolding runs_back bytes_le
-    one-command c = rw e at (h c)
+  module _ (hn : d.n ≤ 64) (hm : d.m ≤ 32) (whole : ℕ → Bool) (w : ℕ) (left : List ℕ) (h : Behind whole w left) where
+    module _ (b : ℕ) (left' : List ℕ) (e : left ≡ b ∷ left') where
+      one-command : (c : ℕ) → both (able d b w) (runs_back d (after d b w) (left' ++ (c ∷ [])) S) ≡ whole c
+      unfolding runs_back
+      one-command c = rw e at (h c)
 
-    pub behind_next : (w' : ℕ) → able_in d (rest % 256) w ≡ true → w' ≡ after_in d (rest % 256) w → Behind whole w' left' (rest / 256)
-    unfolding both
-    behind_next w' t q c =
-        ap (λ (v : ℕ). back_with v left' (rest / 256) c) (q ∙ after-limits d (rest % 256) w hn hm)
-        ∙ (rw (sym (able-limits d (rest % 256) w hn hm) ∙ t) at (one-command c))
+      pub behind_next : (w' : ℕ) → able_in d b w ≡ true → w' ≡ after_in d b w → Behind whole w' left'
+      unfolding both
+      behind_next w' t q c =
+          ap (λ (v : ℕ). back_with v left' c) (q ∙ after-limits d b w hn hm) ∙ (rw (sym (able-limits d b w hn hm) ∙ t) at (one-command c))
 
-    pub behind_stuck : able_in d (rest % 256) w ≡ false → (c : ℕ) → whole c ≡ false
-    unfolding both
-    behind_stuck f c = sym (rw (sym (able-limits d (rest % 256) w hn hm) ∙ f) at (one-command c))
+      pub behind_stuck : able_in d b w ≡ false → (c : ℕ) → whole c ≡ false
+      unfolding both
+      behind_stuck f c = sym (rw (sym (able-limits d b w hn hm) ∙ f) at (one-command c))
 
-  pub behind_none : (whole : ℕ → Bool) (w left rest c : ℕ) → left ≡ 0 → Behind whole w left rest → runs_back d w (c ∷ []) S ≡ whole c
-  unfolding bytes_le
-  behind_none whole w left rest c e h = rw e at (h c)
+    pub behind_none : left ≡ [] → (c : ℕ) → runs_back d w (c ∷ []) S ≡ whole c
+    behind_none e c = rw e at (h c)
 
 -- ---- all starts
 module _ (d : Device) (kept row : List ℕ) where
@@ -233,15 +183,11 @@ module _ (d : Device) (kept row : List ℕ) where
   abbrev pub whole_back : ℕ → ℕ → Bool
   whole_back starts c = all_back d kept starts (row ++ (c ∷ []))
 
-  pub starts-start : (m commands starts : ℕ) → commands ≡ 2 ^ m - 1 → starts < 2 ^ d.n → Asking back_by d.n m (whole_back starts) commands starts
+  pub starts_first : (m commands used : ℕ) → d.n ≤ 64 → commands ≡ 2 ^ m - 1 → Asking back_by d.n m (whole_back used) commands (present 64 (used % 2 ^ d.n))
   unfolding all_back
-  starts-start m commands starts e low =
-      record {
-        rest-low = low;
-        low = below_clear m commands (omega (arith, e, pow_pos m));
-        each = λ c l. ap (λ (b : Bool). gathered (all_so_far (back_by c)) d.n b starts) (ap (λ (w : ℕ). member w c) e ∙ all-commands m c l)
-            ∙ all_gathered (back_by c) d.n starts;
-      }
+  starts_first m commands used few e =
+      ask_first back_by d.n m used commands few (below_clear m commands (omega (arith, e, pow_pos m)))
+      (λ c l. ap (λ (b : Bool). gathered (all_so_far (back_by c)) d.n b used) (ap (λ (w : ℕ). member w c) e ∙ all-commands m c l) ∙ all_gathered (back_by c) d.n used)
 
 -- ---- a row that ends with one more command
 shifted : (row p : ℕ) → ((row + p * 256) % 256 ≡ row % 256) × ((row + p * 256) / 256 ≡ row / 256 + p)
@@ -258,49 +204,45 @@ last_byte (suc k) row c h l =
     ap₂ (λ (x : ℕ) (y : List ℕ). x ∷ y) (ap (λ (x : ℕ). (row + x) % 256) e ∙ a)
     (ap (λ (x : ℕ). bytes_le (suc k) ((row + x) / 256)) e ∙ ap (bytes_le (suc k)) b ∙ last_byte k (row / 256) c few l)
 
-pub last-command : (count left place row c : ℕ) → left ≡ 1 → left ≤ count → place ≡ 256 ^ (count - left) → row < place → c < 256
-    → bytes_le (count - 1) row ++ (c ∷ []) ≡ bytes_le count (row + c * place)
-last-command count left place row c o l e h b =
-    let k = count - 1 in
-    let s : suc k ≡ count = omega (arith, l, o) in
-    let q : place ≡ 256 ^ k = e ∙ ap (λ (x : ℕ). 256 ^ (count - x)) o in
-    sym (last_byte k row c (omega (arith, h, q)) b) ∙ ap₂ (λ (x y : ℕ). bytes_le x (row + c * y)) s (sym q)
+pub last-command : (count left row c : ℕ) → left ≡ 1 → row < 256 ^ count → c < 256
+    → bytes_le count row ++ (c ∷ []) ≡ bytes_le (count + left) (row + c * 256 ^ count)
+last-command count left row c one h b = rw (one, add-one) (sym (last_byte count row c h b))
 
 -- ---- the lowest of them is what the search from 0 up finds
-tries-none : (f : ℕ → Search) (n c : ℕ) → ((b : ℕ) → c ≤ b → b < c + n → f b ≡ NoRow) → tries f c n ≡ NoRow
+tries-none : (f : ℕ → Option ℕ) (n c : ℕ) → ((b : ℕ) → c ≤ b → b < c + n → f b ≡ None) → tries f c n ≡ None
 unfolding tries
 tries-none f zero c e = refl
 tries-none f (suc n) c e =
-    ap (λ (x : Search). on_row x Row (tries f (suc c) n)) (e c (omega arith) (omega arith)) ∙ tries-none f n (suc c) (λ b l h. e b (omega (arith, l)) (omega (arith, h)))
+    ap (λ (x : Option ℕ). option_or x (tries f (suc c) n)) (e c (omega arith) (omega arith)) ∙ tries-none f n (suc c) (λ b l h. e b (omega (arith, l)) (omega (arith, h)))
 
-tries-first : (f : ℕ → Search) (x y : ℕ) → f x ≡ Row y → (n c : ℕ) → c ≤ x → x < c + n → ((b : ℕ) → c ≤ b → b < x → f b ≡ NoRow) → tries f c n ≡ Row y
+tries-first : (f : ℕ → Option ℕ) (x y : ℕ) → f x ≡ Some y → (n c : ℕ) → c ≤ x → x < c + n → ((b : ℕ) → c ≤ b → b < x → f b ≡ None) → tries f c n ≡ Some y
 unfolding tries
 tries-first f x y q zero c l h e = absurd (omega (arith, l, h))
 tries-first f x y q (suc n) c l h e =
-    ⊎_elim (λ (s : c ≡ x). ap (λ (z : Search). on_row z Row (tries f (suc c) n)) (ap f s ∙ q))
-    (λ (s : c < x). ap (λ (z : Search). on_row z Row (tries f (suc c) n)) (e c (omega arith) s)
+    ⊎_elim (λ (s : c ≡ x). ap (λ (z : Option ℕ). option_or z (tries f (suc c) n)) (ap f s ∙ q))
+    (λ (s : c < x). ap (λ (z : Option ℕ). option_or z (tries f (suc c) n)) (e c (omega arith) s)
     ∙ tries-first f x y q n (suc c) s (omega (arith, h)) (λ b i j. e b (omega (arith, i)) j)) (eq-or-lt_of_le l)
 
 module _ (test : ℕ → Bool) (m left place row : ℕ) (one : left ≡ 1) (w : ℕ) (p : Passing m (λ c. test (row + c * place)) w) where
-  abbrev with : ℕ → Search
+  abbrev with : ℕ → Option ℕ
   with c = lowest_row test m 0 (place * 256) (row + c * place)
 
   only_one : tries with 0 m ≡ lowest_row test m left place row
   unfolding lowest_row
   only_one = rw one
 
-  with_yes : (c : ℕ) → test (row + c * place) ≡ true → with c ≡ Row (row + c * place)
+  with_yes : (c : ℕ) → test (row + c * place) ≡ true → with c ≡ Some (row + c * place)
   unfolding lowest_row pick
   with_yes c t = rw t
 
-  with_no : (c : ℕ) → test (row + c * place) ≡ false → with c ≡ NoRow
+  with_no : (c : ℕ) → test (row + c * place) ≡ false → with c ≡ None
   unfolding lowest_row pick
   with_no c t = rw t
 
-  out : (c : ℕ) → c < m → (In w c → ⊥) → with c ≡ NoRow
+  out : (c : ℕ) → c < m → (In w c → ⊥) → with c ≡ None
   out c l f = with_no c (sym (p.each c l) ∙ not-member w c f)
 
-  pub last_none : w ≡ 0 → NoRow ≡ lowest_row test m left place row
+  pub last_none : w ≡ 0 → None ≡ lowest_row test m left place row
   last_none z = sym (tries-none with m 0 (λ b l h. out b (omega (arith, h)) (λ i. in_zero b (rw z at i)))) ∙ only_one
 
   module _ (some : w ≡ 0 → ⊥) (few : m ≤ 32) where
@@ -314,7 +256,7 @@ module _ (test : ℕ → Bool) (m left place row : ℕ) (one : left ≡ 1) (w : 
     pub last-low : lowest < m
     last-low = p.low lowest (trailing_zeros_lowest w some word).there
 
-    pub last_found : Row (row + lowest * place) ≡ lowest_row test m left place row
+    pub last_found : Some (row + lowest * place) ≡ lowest_row test m left place row
     last_found =
         let low = trailing_zeros_lowest w some word in
         sym (tries-first with lowest (row + lowest * place)

@@ -1,3 +1,4 @@
+pub mod Passes
 pub mod Kept
 pub mod Trying
 pub mod Last

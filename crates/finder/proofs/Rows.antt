@@ -9,15 +9,15 @@ use native.Mathlib.Omega.{arith}
 use native.Mathlib.Decide.{dec_lt}
 use lib.Dec.{T}
 use lib.ListN.{length}
+use Rattle.std.specs.Prelude.{Option, Some, None}
+use Rattle.std.specs.Option.{option_or, option_map_or}
 use Rattle.base.specs.Lists.{Each}
 use Rattle.base.specs.Tests.{pick}
 use Rattle.octets.specs.Parts.{le}
 use Rattle.reversal.specs.Chains.{LexLe}
 use Rattle.finder.specs.declared.Found.{Found}
-use Rattle.finder.specs.declared.Search.{Search}
-use Rattle.finder.specs.declared.Search.TheVariants.{NoRow, Row}
 use Rattle.finder.specs.Finds.{refusal}
-use Rattle.finder.specs.Contract.{on_row, tries, lowest_row, answer, shortest_row}
+use Rattle.finder.specs.Contract.{tries, lowest_row, answer, shortest_row}
 
 -- k commands below m
 record RowOf (m k : ℕ) (cs : List ℕ) : Type 0 where
@@ -37,15 +37,15 @@ record Lowest (test : ℕ → Bool) (m k place row x : ℕ) (cs : List ℕ) : Ty
   pub lowest : (ds : List ℕ) → RowOf m k ds → T (test (row + place * le ds)) → LexLe cs ds
 
 -- what an answer of the search says
-abbrev LowestIs : (ℕ → Bool) → ℕ → ℕ → ℕ → ℕ → Search → Type 0
-LowestIs test m k place row NoRow = (ds : List ℕ) → RowOf m k ds → T (test (row + place * le ds)) → ⊥
-LowestIs test m k place row (Row x) = (cs : List ℕ) × Lowest test m k place row x cs
+abbrev LowestIs : (ℕ → Bool) → ℕ → ℕ → ℕ → ℕ → Option ℕ → Type 0
+LowestIs test m k place row None = (ds : List ℕ) → RowOf m k ds → T (test (row + place * le ds)) → ⊥
+LowestIs test m k place row (Some x) = (cs : List ℕ) × Lowest test m k place row x cs
 
 -- the command c, then those of ds
 further : (place row c x : ℕ) → (row + c * place) + place * 256 * x ≡ row + place * (c + 256 * x)
 further place row c x = omega arith
 
-module _ (test : ℕ → Bool) (m k place row : ℕ) (f : ℕ → Search) (found : (c : ℕ) → LowestIs test m k (place * 256) (row + c * place) (f c)) where
+module _ (test : ℕ → Bool) (m k place row : ℕ) (f : ℕ → Option ℕ) (found : (c : ℕ) → LowestIs test m k (place * 256) (row + c * place) (f c)) where
   -- no row that goes on below c passes
   abbrev NoneBelow : ℕ → Type 0
   NoneBelow c = (b : ℕ) → b < c → (ds : List ℕ) → RowOf m k ds → T (test (row + place * le (b ∷ ds))) → ⊥
@@ -62,9 +62,9 @@ module _ (test : ℕ → Bool) (m k place row : ℕ) (f : ℕ → Search) (found
       go (b ∷ ds) r t = none b (omega (arith, e, r.below.0)) ds (tail_row r) t
   tries-lowest (suc n) c e none = go (f c) (found c) (tries-lowest n (suc c) (omega (arith, e)))
     where
-      go : (x : Search) → LowestIs test m k (place * 256) (row + c * place) x → (NoneBelow (suc c) → LowestIs test m (suc k) place row (tries f (suc c) n))
-          → LowestIs test m (suc k) place row (on_row x Row (tries f (suc c) n))
-      go NoRow q more = more below
+      go : (x : Option ℕ) → LowestIs test m k (place * 256) (row + c * place) x → (NoneBelow (suc c) → LowestIs test m (suc k) place row (tries f (suc c) n))
+          → LowestIs test m (suc k) place row (option_or x (tries f (suc c) n))
+      go None q more = more below
         where
           below : NoneBelow (suc c)
           below b l ds r t = at (dec_lt b c)
@@ -72,7 +72,7 @@ module _ (test : ℕ → Bool) (m k place row : ℕ) (f : ℕ → Search) (found
               at : Dec (b < c) → ⊥
               at (yes h) = none b h ds r t
               at (no h) = let same : b ≡ c = omega (arith, l, h) in q ds r (behind c ds (subst (λ (x : ℕ). T (test (row + place * le (x ∷ ds)))) same t))
-      go (Row x) (cs, q) more = (
+      go (Some x) (cs, q) more = (
         c ∷ cs,
         record {
           is_row = record { size = ap suc q.is_row.size; below = (omega (arith, e), q.is_row.below) };
@@ -100,7 +100,7 @@ lowest-row test m zero place row = go (test row) refl
     here : row ≡ row + place * 0
     here = omega arith
 
-    go : (b : Bool) → test row ≡ b → LowestIs test m 0 place row (pick b (Row row) NoRow)
+    go : (b : Bool) → test row ≡ b → LowestIs test m 0 place row (pick b (Some row) None)
     go true e = (
       [],
       record { is_row = record { size = refl; below = tt }; value = here; passes = subst T (sym e) tt; lowest = λ ds r t. tt },
@@ -152,8 +152,8 @@ module _ (test : ℕ → ℕ → Bool) (m : ℕ) where
   shortest-row zero k = inl (refl, λ ds l h b t. omega (arith, l, h))
   shortest-row (suc n) k = go (lowest_row (test k) m k 1 0) (lowest-row (test k) m k 1 0) (shortest_row test m (suc k) n) (shortest-row n (suc k))
     where
-      go : (x : Search) → LowestIs (test k) m k 1 0 x → (y : Found) → ShortestIs test m (suc k) n y → ShortestIs test m k (suc n) (on_row x (answer k) y)
-      go (Row x) (cs, q) y s =
+      go : (x : Option ℕ) → LowestIs (test k) m k 1 0 x → (y : Found) → ShortestIs test m (suc k) n y → ShortestIs test m k (suc n) (option_map_or (answer k) x y)
+      go (Some x) (cs, q) y s =
           let e : k ≡ length cs = sym q.is_row.size in
           let v : x ≡ le cs = q.value ∙ sym (from_one (le cs)) in
           inr (
@@ -168,7 +168,7 @@ module _ (test : ℕ → ℕ → Bool) (m : ℕ) where
               lowest = λ ds b t same. let (r, u) = row_of k ds (same ∙ sym e) b t in q.lowest ds r u;
             },
           )
-      go NoRow q y (inl (e, s)) = inl (e, none)
+      go None q y (inl (e, s)) = inl (e, none)
         where
           none : (ds : List ℕ) → k ≤ length ds → length ds < k + suc n → Each (λ c. c < m) ds → Passes test ds → ⊥
           none ds l h b t = at (dec_lt k (length ds))
@@ -176,7 +176,7 @@ module _ (test : ℕ → ℕ → Bool) (m : ℕ) where
               at : Dec (k < length ds) → ⊥
               at (yes g) = s ds g (omega (arith, h)) b t
               at (no g) = let (r, u) = row_of k ds (omega (arith, l, g)) b t in q ds r u
-      go NoRow q y (inr (cs, e, s)) = inr (
+      go None q y (inr (cs, e, s)) = inr (
         cs,
         e,
         record {

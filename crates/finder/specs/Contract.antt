@@ -1,6 +1,7 @@
 -- What finding computes: the ends that it keeps, the test of a row of commands, and the search. proofs/Exactly ties it to specs/Finds. Assumes nothing:
 -- these are definitions.
-use Rattle.std.specs.Prelude.{◌≡◌, Bool, false, List, [], ℕ, zero, suc, ◌+◌, ◌*◌, ◌<◌, T, length, get_or}
+use Rattle.std.specs.Prelude.{◌≡◌, Bool, false, List, [], ℕ, zero, suc, ◌+◌, ◌*◌, ◌<◌, T, Option, Some, None, length, get_or}
+use Rattle.std.specs.Option.{option_or, option_map_or}
 use Rattle.base.specs.Sets.{NoBitFrom}
 use Rattle.base.specs.Lists.{Bytes}
 use Rattle.base.specs.Tests.{pick, imp}
@@ -12,8 +13,6 @@ use Rattle.reversal.specs.Computed.Sets.{ends, start_used, accepts}
 use Rattle.book.specs.Limits.{counts_fine, fields_fine}
 use Rattle.checker.specs.Contract.{returns_in}
 use Rattle.finder.specs.declared.Found.{Found}
-use Rattle.finder.specs.declared.Search.{Search}
-use Rattle.finder.specs.declared.Search.TheVariants.{NoRow, Row}
 use Rattle.finder.specs.Finds.{Sought, item_of, refusal, Finds}
 
 -- ---- what is sought
@@ -41,18 +40,14 @@ pub record Passing (m : ℕ) (test : ℕ → Bool) (commands : ℕ) : Type 0 whe
 
 -- ---- the search, for any test of rows
 
-abbrev pub on_row : {A : Type 0} → Search → (ℕ → A) → A → A
-on_row NoRow some none = none
-on_row (Row row) some none = some row
-
 -- what f finds with the first command, of n from c on, with which it finds a row
-unfoldable pub tries : (ℕ → Search) → ℕ → ℕ → Search
-tries f c zero = NoRow
-tries f c (suc n) = on_row (f c) Row (tries f (suc c) n)
+unfoldable pub tries : (ℕ → Option ℕ) → ℕ → ℕ → Option ℕ
+tries f c zero = None
+tries f c (suc n) = option_or (f c) (tries f (suc c) n)
 
 -- of the rows that begin with `row` and have `left` commands below m more, the first of which counts `place`, the lowest that passes
-unfoldable pub lowest_row : (ℕ → Bool) → ℕ → ℕ → ℕ → ℕ → Search
-lowest_row test m zero place row = pick (test row) (Row row) NoRow
+unfoldable pub lowest_row : (ℕ → Bool) → ℕ → ℕ → ℕ → ℕ → Option ℕ
+lowest_row test m zero place row = pick (test row) (Some row) None
 lowest_row test m (suc left) place row = tries (λ c. lowest_row test m left (place * 256) (row + c * place)) 0 m
 
 -- the answer with a row of `count` commands
@@ -62,7 +57,7 @@ answer count row = record { code = 0; place = 0; count = count; commands = bytes
 -- rows of `count` commands, then of one more, n lengths in all
 unfoldable pub shortest_row : (ℕ → ℕ → Bool) → ℕ → ℕ → ℕ → Found
 shortest_row test m count zero = refusal 15 0
-shortest_row test m count (suc n) = on_row (lowest_row (test count) m count 1 0) (answer count) (shortest_row test m (suc count) n)
+shortest_row test m count (suc n) = option_map_or (answer count) (lowest_row (test count) m count 1 0) (shortest_row test m (suc count) n)
 
 -- what is found for a device, by the check of each item on sets
 unfoldable pub found_in : Device → Sought → Found

@@ -1,3 +1,4 @@
 pub mod Finds
 pub mod Contract
+pub mod Searching
 pub mod Cases

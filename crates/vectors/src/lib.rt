@@ -95,16 +95,19 @@ impl Cases<'_> {
         requires { (state : C) (head book run : _) → C.pre state head book run }
         ensures { result ≤ self.entry.count }
     {
-        self.each(rt, |file, head|
-            requires { (book run : _) → C.pre case head book run }
-        {
-            let mut book = [0; 31179];
-            let mut run = [0; 302];
-            let run_size = next_two(file);
-            let book_size = read_part(file, last_two(head), &mut book);
-            let run_size = read_part(file, run_size, &mut run);
-            case(head, &book[..book_size], &run[..run_size]);
-        })
+        self.each(
+            rt,
+            |file, head|
+                requires { (book run : _) → C.pre case head book run }
+            {
+                let mut book = [0; 31179];
+                let mut run = [0; 302];
+                let run_size = next_two(file);
+                let book_size = read_part(file, last_two(head), &mut book);
+                let run_size = read_part(file, run_size, &mut run);
+                case(head, &book[..book_size], &run[..run_size]);
+            },
+        )
     }
 }
 

@@ -1,5 +1,5 @@
 -- Assumes nothing.
-use Rattle.std.proofs.Common.{arith, refl, ◌*◌, ◌+◌}
+use Rattle.std.proofs.Common.{arith, refl, ◌*◌}
 use native.Mathlib.Nat.{sub-zero, add-zero}
 use Rattle.octets.proofs.Turns.{rows_again, count-again, rows_done, count-done, rows_from}
 use Rattle.writer.proofs.Stores.{cells_below}

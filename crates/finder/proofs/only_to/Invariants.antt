@@ -1,9 +1,0 @@
--- `only_to`: of the commands below c those that lead to the goal alone are found, and the bit is that of c.
-use Rattle.std.proofs.Common.{◌≡◌, ◌^◌, ◌≤◌, eqb}
-use Rattle.reversal.specs.Device.{tabled}
-use Rattle.finder.specs.Contract.{Passing}
-use Rattle.finder.proofs.only_to.Given as goal
-
-abbrev pub invariant-loop-c : goal.invariant-loop-c
-invariant-loop-c l =
-    (l.c ≤ l.m) × (l.bit ≡ 2 ^ l.c) × Passing l.c (λ c. eqb ((tabled l.n l.m l.table).outcomes l.state c) l.goal) l.found

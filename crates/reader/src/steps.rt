@@ -42,7 +42,7 @@ fn weights_fine(body: &[u8]) -> bool
         if !limits::weight_fine(octets::u16_at(body, at)) {
             return false;
         }
-        at = at + 2;
+        at += 2;
     }
     true
 }
@@ -56,7 +56,7 @@ fn all_one(body: &[u8]) -> bool
         if octets::u16_at(body, at) != 1 {
             return false;
         }
-        at = at + 2;
+        at += 2;
     }
     true
 }

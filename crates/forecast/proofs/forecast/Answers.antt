@@ -11,7 +11,7 @@ returns-in-Err c =
 pub returns-then-i-gt32 : goal.returns-then-i-gt32
 returns-then-i-gt32 c =
     as_long _ _ (each_of (λ x. x < 256) c.args.book.now 0 (λ i h. omega (arith, c.type_inv.book i))) c.in-Ok.sums c.in-Ok.ensures.judged c.if-i-gt32.true _
-    c.into-then-i-gt32.ensures
+    (rw c.at.ensures at c.into-then-i-gt32.ensures)
 
 pub returns : goal.returns
 returns c =

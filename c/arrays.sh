@@ -2,12 +2,15 @@
 # 02: "No local array has over 64 elements", of assembling with a scratch: arrays.sh [ROOT]
 # Reads the source of planner, which has rollback_assemble_small, of planner_c, which exports it, of the crates that
 # planner calls there, and of all that these stand on (crates.txt). Each array in a function, a type or a constant there, `[v; N]`, `[T; N]` or a list,
-# one of arrays too, has 64 elements at most, or stands below with the call that it is for. Status 1 if one has more,
+# one of arrays too, has 64 elements at most, or stands below with the call that it is for, or with the
+# values of its const parameter. Status 1 if one has more,
 # if its length can't be read, or if one that is listed is not there.
 set -eu
 cd "${1:-$(dirname "$0")/..}"
 allowed='planner rollback_assemble_legs the legs as bytes
-planner fill_legs              the same'
+planner fill_legs              the same
+octets chunk_at                N is 2 or 8, the bytes of a number
+octets bytes_at                the same'
 planner=crates/planner/src
 
 # The crates that a function of planner calls, one to a line.

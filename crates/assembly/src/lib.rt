@@ -92,8 +92,12 @@ fn planned<D: Outcomes>(
     let sum = points.fewest[i as usize];
     if sum == NONE {
         return Assembly {
+            code: Fault::NoChain.into(),
+            place: 0,
+            commands: 0,
+            legs: 0,
+            sum: 0,
             fewest: points.fewest,
-            ..Fault::NoChain.at(0).into()
         };
     }
     let counts = write_chain(book, &places, &points.items, i, plan, legs);

@@ -244,6 +244,7 @@ pub fn check_into(
 }
 
 // The same with a scratch of at least 64 masks in place of the buffers. Where the book was read the scratch holds the index of its moves.
+#[inline(never)]
 pub fn check_in_scratch(book: &[u8], scratch: &mut [u64]) -> Result<Counts, Rejected>
     ensures { CheckSmallAs book.now scratch.old (checking_by result) scratch.new }
 {

@@ -5,6 +5,7 @@ use states::{Outcomes, StateSet};
 
 // One forward and one backward pass over the run: the possible states at the points 0 to i. Nothing is written for a run with over 32 commands, or
 // where fewer than 33 masks are lent.
+#[inline(never)]
 pub fn beliefs<D: Outcomes>(run: &[u8], device: &D, sets: &mut [u64])
     ensures { BeliefsAs (D.device device.now) run.now sets.old sets.new }
 {

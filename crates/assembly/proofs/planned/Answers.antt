@@ -32,7 +32,7 @@ returns-then-sum g c =
     let known =
     ways.numbers-known w (ways.believing w c.beliefs.ensures (omega arith)) c.if-sets-eq0.false c.last_point-i.ensures.value c.places-places.ensures
     c.points_of-points.ensures in
-    rw (c.into-then-sum.ensures, c.at-then-sum.ensures) (ways.no_number known c.if-sum.true)
+    rw c.into-then-sum.ensures (ways.no_number known c.if-sum.true)
 
 pub returns : goal.returns
 returns g c =

@@ -18,7 +18,7 @@ ghost use Rattle.reader.specs.Filling.{TableFilled, SlotsFilled, WeightsFilled};
 ghost use Rattle.reader.specs.Reads.{refusal};
 ghost use Rattle.reader.specs.Contract.{reading_at, reading_by, ReadingOf, ReadInto, ReadAs};
 
-use book::{Fault, FaultAt, State};
+use book::{Fault, FaultAt, Phase, State};
 use scan::Reached;
 use units::Tally;
 
@@ -49,7 +49,7 @@ fn pass(book: &[u8], summing: bool) -> Result<Sums, FaultAt>
 {
     let mut here = Reached {
         st: State {
-            phase: 0,
+            phase: Phase::AtStart,
             n: 0,
             m: 0,
             low: 0,

@@ -4,7 +4,7 @@ ghost use Rattle.reader.specs.Judged.{Limits};
 ghost use Rattle.reader.specs.Passing.{GoodMove, Passing};
 
 use crate::scan::Reached;
-use book::State;
+use book::{Kind, Phase, State};
 
 // The bytes of a move's record.
 const MOVE_LEN: usize = 14;
@@ -43,7 +43,7 @@ pub(crate) fn past_moves(s: &[u8], from: Reached) -> Reached
     requires { Limits from.st × (from.at ≤ length s.now) }
     ensures { Passing s.now from.at from.st result.at result.st × (result.at ≤ length s.now) }
 {
-    if from.st.phase < 2 {
+    if !from.st.phase.allows(Kind::MoveRecord) {
         return from;
     }
     let State {
@@ -59,7 +59,7 @@ pub(crate) fn past_moves(s: &[u8], from: Reached) -> Reached
         let Some(next) = low_after(s, at, n, m, top, low) else {
             break;
         };
-        phase = 2;
+        phase = Phase::AtMoves;
         low = next;
         at += MOVE_LEN;
     }

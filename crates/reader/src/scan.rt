@@ -4,7 +4,7 @@ ghost use Rattle.reader.specs.Judged.{Limits};
 ghost use Rattle.reader.specs.Turns.{Stands, Turned};
 
 use crate::steps;
-use book::{Fault, State};
+use book::{Fault, Phase, State};
 
 // A record's first four bytes: the length of its body, and its kind's number.
 #[derive(Clone, Copy)]
@@ -45,11 +45,10 @@ pub(crate) fn turn_at(s: &[u8], here: Reached) -> Result<Option<Reached>, Fault>
     ensures { Turned s.now here.at here.st result }
 {
     let Some(head) = head_at(s, here.at)? else {
-        // An empty book is cut off.
-        return if here.st.phase == 0 {
-            Err(Fault::CutOff)
-        } else {
-            Ok(None)
+        return match here.st.phase {
+            // An empty book is cut off.
+            Phase::AtStart => Err(Fault::CutOff),
+            _ => Ok(None),
         };
     };
     let body = here.at + 4;

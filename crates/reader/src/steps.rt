@@ -37,28 +37,16 @@ fn device_step(st: State, body: &[u8]) -> Step
 fn weights_fine(body: &[u8]) -> bool
     ensures { result ≡ weights_fine (weights_of body.now) }
 {
-    let mut at: usize = 0;
-    while at + 1 < body.len() {
-        if !limits::weight_fine(octets::u16_at(body, at)) {
-            return false;
-        }
-        at += 2;
-    }
-    true
+    body.chunks_exact(2)
+        .all(|weight| limits::weight_fine(octets::u16_at(weight, 0)))
 }
 
 // Whether each of them is 1.
 fn all_one(body: &[u8]) -> bool
     ensures { result ≡ all_one (weights_of body.now) }
 {
-    let mut at: usize = 0;
-    while at + 1 < body.len() {
-        if octets::u16_at(body, at) != 1 {
-            return false;
-        }
-        at += 2;
-    }
-    true
+    body.chunks_exact(2)
+        .all(|weight| octets::u16_at(weight, 0) == 1)
 }
 
 // A record of weights: two bytes for each command.

@@ -116,8 +116,8 @@ pub fn fill_table(book: &[u8], table: &mut [u64]) -> usize
 pub fn fill_slots(book: &[u8], first: usize, slots: &mut [u8])
     ensures { SlotsFilled book.now first slots.old slots.new }
 {
-    for (i, (at, _)) in items::records(book, first).take(64).enumerate() {
-        slots::fill(book, at, slots, i as u8);
+    for (i, (_, item)) in items::records(book, first).take(64).enumerate() {
+        slots::fill_from(book, item, slots, i as u8);
     }
 }
 

@@ -16,7 +16,7 @@ use Rattle.book.specs.Parse.Row.{End, Torn}
 use Rattle.book.proofs.CutAt.{cut_whole}
 use Rattle.reader.specs.Judged.{Limits, rec}
 use Rattle.reader.specs.Turns.{Standing, Onward, Turned}
-use Rattle.reader.specs.declared.scan.Reached.{Reached}
+use Rattle.reader.specs.declared.reached.Reached.{Reached}
 
 -- what the exit of a `?` hands on
 pub handed_on : (s : List ℕ) (at : ℕ) (st : State) {f : Fault} (r : Result (Option Reached) Fault) → IsErrAnd r (λ e. e ≡ f)

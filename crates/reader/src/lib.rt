@@ -3,6 +3,7 @@
 
 mod fill;
 mod passing;
+mod reached;
 mod scan;
 mod steps;
 mod units;
@@ -19,7 +20,7 @@ ghost use Rattle.reader.specs.Reads.{refusal};
 ghost use Rattle.reader.specs.Contract.{reading_at, reading_by, ReadingOf, ReadInto, ReadAs};
 
 use book::{Fault, FaultAt, Phase, State};
-use scan::Reached;
+use reached::Reached;
 use units::Tally;
 
 // What reading answers: the code and its place; n, m and the number of items, each 0 on a refusal.

@@ -67,7 +67,10 @@ fn weights_step(st: State, body: &[u8]) -> Step
     if all_one(body) {
         return Err(Fault::OnesOnly);
     }
-    Ok(State { phase: Phase::AtMoves, ..st })
+    Ok(State {
+        phase: Phase::AtMoves,
+        ..st
+    })
 }
 
 // A move record: state, command and mask.

@@ -4,10 +4,10 @@ use Rattle.reader.specs.Passing.Passing.{none, one}
 use Rattle.reader.proofs.passing.past_moves.Goals as goal
 
 pub returns-then-not-allows : goal.returns-then-not-allows
-returns-then-not-allows c = (none, c.requires.1)
+returns-then-not-allows c = (none, c.requires)
 
 pub loop-at-init : goal.loop-at-init
-loop-at-init c = record { passed = none; within = c.requires.1; moves = sym c.allows.ensures ∙ c.if-not-allows.false }
+loop-at-init c = record { passed = none; within = c.requires; moves = sym c.allows.ensures ∙ c.if-not-allows.false }
 
 pub loop-at-preserved : goal.loop-at-preserved
 loop-at-preserved c =

@@ -30,7 +30,7 @@ use Rattle.book.proofs.Reading.{scan_whole, parse-fine}
 use Rattle.book.proofs.Slots.{length-slot}
 use Rattle.items.specs.declared.Parts.{Parts}
 use Rattle.items.specs.Items.{MovesBegin, Begins, ItemStands, ItemComes, MoveComes}
-use Rattle.slots.specs.Filled.{SlotFilled}
+use Rattle.slots.specs.Filled.{FilledFrom}
 use Rattle.items.proofs.Laws.{allowed}
 use Rattle.items.proofs.Walk.{past-move, state_at, command_at_lem, mask_at_lem, no_move, none_left, one_more, all_passed}
 use Rattle.reader.specs.Reads.{done}
@@ -136,13 +136,12 @@ module _ {s : List ℕ} {b : Book} {whole : List ℕ} {at i : ℕ} {slots : List
 
   -- the walk of `ItemRecords`, of which n more records are taken
   module _ {u u' : List ℕ} {at' : ℕ} (same : u ≡ s) where
-    pub item-slotted : {p r : ℕ} {x : Parts} {slots' : List ℕ} → ItemComes u at (Some (p, x)) u' at' → SlotFilled s p slots i slots' r
+    pub item-slotted : {p : ℕ} {x : Parts} {slots' : List ℕ} → ItemComes u at (Some (p, x)) u' at' → FilledFrom s x slots i slots'
         → Slotting s b whole at' (i + 1) slots'
     item-slotted {slots' = slots'} c o =
         let h = rw same at c.1.0 in
         let parts = rw same at c.1.2 in
-        let filled-here = rw c.1.1 at o in
-        rw c.1.3 (slotted h _ (parts.next (stands h)) slots' (filled-here.slot (stands h)))
+        rw c.1.3 (slotted h _ (parts.next (stands h)) slots' ((o at parts).slot (stands h)))
 
     pub all-slotted : (n : ℕ) → i + n ≡ 64 → (0 < n → ItemComes u at None u' at') → slots ≡ whole
     all-slotted n c f = go (dec_lt 0 n)

@@ -17,7 +17,7 @@ use Rattle.octets.proofs.LeAt.{le2, halves8}
 use Rattle.book.specs.declared.kind.Kind.TheVariants.{MoveRecord}
 use Rattle.book.specs.declared.State.{State}
 use Rattle.book.specs.Limits.{move_fine, move_with}
-use Rattle.book.specs.Parse.{kind_of, cut, step, scan}
+use Rattle.book.specs.Parse.{allows, kind_of, cut, step, scan}
 use Rattle.reader.specs.Judged.{Limits, rec}
 use Rattle.reader.specs.Turns.{Onward}
 use Rattle.reader.specs.Passing.{GoodMove, moved, Passing}
@@ -47,7 +47,7 @@ module _ (s : List ℕ) (at : ℕ) (byte : (i : ℕ) → get_or s i 0 < 256) whe
       record { length_is = k.0; kind_is = k.1; fine = sym (rw (es, ec, em) at f); rising = rw (es, ec) at r; next_is = rw (es, ec) }
 
 -- ---- where judging goes on
-module _ (s : List ℕ) (at next : ℕ) (st : State) (l : at + 14 ≤ length s) (g : GoodMove s at st.n st.m st.low next) (p : 2 ≤ st.phase) where
+module _ (s : List ℕ) (at next : ℕ) (st : State) (l : at + 14 ≤ length s) (g : GoodMove s at st.n st.m st.low next) (p : allows st.phase MoveRecord ≡ true) where
   judged : Ok (moved st next) ≡ step st (rec 2 (take (at + 4 + 10 - (at + 4)) (drop (at + 4) s)))
   unfolding kind_of same pick
   judged =

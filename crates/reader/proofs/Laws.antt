@@ -15,8 +15,9 @@ use Rattle.book.specs.declared.kind.Kind.TheVariants.{MoveRecord}
 use Rattle.book.specs.declared.kind.UnknownKind.{UnknownKind}
 use Rattle.book.specs.declared.fault.Fault.TheVariants.{WrongKind}
 use Rattle.book.specs.declared.State.{State}
+use Rattle.book.specs.declared.phase.Phase.TheVariants.{AtMoves}
 use Rattle.book.specs.Limits.{move_fine, move_with, item_with}
-use Rattle.book.specs.Parse.{Step, kind_of, move_of, item_of, judged_as, judged, step}
+use Rattle.book.specs.Parse.{allows, Step, kind_of, move_of, item_of, judged_as, judged, step}
 use Rattle.reader.specs.Judged.{Counted, rec}
 
 -- a move's index is small
@@ -31,9 +32,10 @@ module _ (st : State) (body : List ℕ) (state command mask : ℕ) (es : state �
   move-is = rw (es, ec, em)
 
   -- every test is passed
-  pub move_goes : 2 ≤ st.phase → length body ≡ 10 → move_fine st.n st.m (move_with state command mask) ≡ true → st.low ≤ state * st.m + command
-      → Ok (record { phase = 2; n = st.n; m = st.m; low = state * st.m + command + 1; items = st.items }) ≡ judged_as MoveRecord st body
+  pub move_goes : allows st.phase MoveRecord ≡ true → length body ≡ 10 → move_fine st.n st.m (move_with state command mask) ≡ true → st.low ≤ state * st.m + command
+      → Ok (record { phase = AtMoves; n = st.n; m = st.m; low = state * st.m + command + 1; items = st.items }) ≡ judged_as MoveRecord st body
   move_goes p l f r =
+      let a : not (allows st.phase MoveRecord) ≡ false = ap not p in
       let g : not (move_fine st.n st.m (move_with state command mask)) ≡ false = ap not f in
       rw move-is (search tests depth 20)
 

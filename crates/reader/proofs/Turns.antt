@@ -2,11 +2,13 @@
 use mathlib.Core.Path.{◌≡◌, refl, sym, ap, ◌∙◌}
 use mathlib.Core.List.{List}
 use Rattle.std.specs.Prelude.{Option, Result, Ok, Err, IsErrAnd}
-use Prim.Native.Nat.{ℕ, zero, suc, ◌+◌, ◌-◌, ◌≤◌}
+use Prim.Native.Nat.{ℕ, ◌+◌, ◌-◌, ◌≤◌}
 use native.Mathlib.Omega.{arith}
 use lib.ListN.{length, take, drop, length-take, length-drop}
 use Rattle.octets.specs.Parts.{le_at}
 use Rattle.book.specs.declared.State.{State}
+use Rattle.book.specs.declared.phase.Phase.{Phase}
+use Rattle.book.specs.declared.phase.Phase.TheVariants.{AtStart, AtWeights, AtMoves, AtItems}
 use Rattle.book.specs.declared.fault.Fault.{Fault}
 use Rattle.book.specs.declared.fault.Fault.TheVariants.{CutOff}
 use Rattle.book.specs.Parse.{Step, fault_at, Row, cut, step, on_step, at_end, scan}
@@ -14,7 +16,7 @@ use Rattle.book.specs.Parse.Row.{End, Torn}
 use Rattle.book.proofs.CutAt.{cut_whole}
 use Rattle.reader.specs.Judged.{Limits, rec}
 use Rattle.reader.specs.Turns.{Standing, Onward, Turned}
-use Rattle.reader.specs.declared.scan.Reached.{Reached}
+use Rattle.reader.specs.declared.reached.Reached.{Reached}
 
 -- what the exit of a `?` hands on
 pub handed_on : (s : List ℕ) (at : ℕ) (st : State) {f : Fault} (r : Result (Option Reached) Fault) → IsErrAnd r (λ e. e ≡ f)
@@ -27,17 +29,19 @@ pub standing : (s : List ℕ) (at len kind : ℕ) → 4 ≤ length s - at → le
 standing s at len kind h a b l = record { row = rw (a, b) (cut_whole s at h (rw a at l)); within = omega arith; length_is = a }
 
 module _ (s : List ℕ) (at : ℕ) (st : State) where
-  pub over_empty : cut (drop at s) ≡ End → st.phase ≡ 0 → scan (cut (drop at s)) at st ≡ Err (fault_at CutOff at)
+  pub over_empty : cut (drop at s) ≡ End → st.phase ≡ AtStart → scan (cut (drop at s)) at st ≡ Err (fault_at CutOff at)
   unfolding scan
   over_empty e h = rw (e, h)
 
-  pub over_end : cut (drop at s) ≡ End → (st.phase ≡ 0 → ⊥) → scan (cut (drop at s)) at st ≡ Ok st
+  pub over_end : cut (drop at s) ≡ End → (st.phase ≡ AtStart → ⊥) → scan (cut (drop at s)) at st ≡ Ok st
   unfolding scan
   over_end e h = rw e (some st.phase h)
     where
-      some : (p : ℕ) → (p ≡ 0 → ⊥) → at_end p at st ≡ Ok st
-      some zero f = absurd (f refl)
-      some (suc p) f = refl
+      some : (p : Phase) → (p ≡ AtStart → ⊥) → at_end p at st ≡ Ok st
+      some AtStart f = absurd (f refl)
+      some AtWeights f = refl
+      some AtMoves f = refl
+      some AtItems f = refl
 
   pub over_short : cut (drop at s) ≡ Torn (drop at s) → scan (cut (drop at s)) at st ≡ Err (fault_at CutOff at)
   unfolding scan

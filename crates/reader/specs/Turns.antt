@@ -7,7 +7,7 @@ use Rattle.book.specs.declared.fault.Fault.TheVariants.{CutOff}
 use Rattle.book.specs.Parse.{cut, fault_at, scan}
 use Rattle.book.specs.Parse.Row.{End, Torn, More}
 use Rattle.reader.specs.declared.scan.Head.{Head}
-use Rattle.reader.specs.declared.scan.Reached.{Reached}
+use Rattle.reader.specs.declared.reached.Reached.{Reached}
 use Rattle.reader.specs.Judged.{Limits, rec}
 
 -- a record stands at `at`, and what follows it

@@ -3,6 +3,7 @@
 
 mod fill;
 mod passing;
+mod reached;
 mod scan;
 mod steps;
 mod units;
@@ -18,8 +19,8 @@ ghost use Rattle.reader.specs.Filling.{TableFilled, SlotsFilled, WeightsFilled};
 ghost use Rattle.reader.specs.Reads.{refusal};
 ghost use Rattle.reader.specs.Contract.{reading_at, reading_by, ReadingOf, ReadInto, ReadAs};
 
-use book::{Fault, FaultAt, State};
-use scan::Reached;
+use book::{Fault, FaultAt, Phase, State};
+use reached::Reached;
 use units::Tally;
 
 // What reading answers: the code and its place; n, m and the number of items, each 0 on a refusal.
@@ -49,7 +50,7 @@ fn pass(book: &[u8], summing: bool) -> Result<Sums, FaultAt>
 {
     let mut here = Reached {
         st: State {
-            phase: 0,
+            phase: Phase::AtStart,
             n: 0,
             m: 0,
             low: 0,
@@ -116,8 +117,8 @@ pub fn fill_table(book: &[u8], table: &mut [u64]) -> usize
 pub fn fill_slots(book: &[u8], first: usize, slots: &mut [u8])
     ensures { SlotsFilled book.now first slots.old slots.new }
 {
-    for (i, (at, _)) in items::records(book, first).take(64).enumerate() {
-        slots::fill(book, at, slots, i as u8);
+    for (i, (_, item)) in items::records(book, first).take(64).enumerate() {
+        slots::fill_from(book, item, slots, i as u8);
     }
 }
 

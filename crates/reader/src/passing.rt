@@ -1,10 +1,9 @@
 // Moves without a fault, passed one after the other in a plain loop over numbers. Any other record is left to `turn_at`.
 ghost use Rattle.std.specs.Prelude.{◌≡◌, ◌+◌, ◌^◌, ◌≤◌, ◌<◌, length, IfSome};
-ghost use Rattle.reader.specs.Judged.{Limits};
 ghost use Rattle.reader.specs.Passing.{GoodMove, Passing};
 
-use crate::scan::Reached;
-use book::State;
+use crate::reached::Reached;
+use book::{Kind, Phase, State};
 
 // The bytes of a move's record.
 const MOVE_LEN: usize = 14;
@@ -40,10 +39,10 @@ fn low_after(s: &[u8], at: usize, n: u64, m: u64, top: u64, low: u64) -> Option<
 
 // Where reading is after the moves without a fault that stand from a place on.
 pub(crate) fn past_moves(s: &[u8], from: Reached) -> Reached
-    requires { Limits from.st × (from.at ≤ length s.now) }
+    requires { from.at ≤ length s.now }
     ensures { Passing s.now from.at from.st result.at result.st × (result.at ≤ length s.now) }
 {
-    if from.st.phase < 2 {
+    if !from.st.phase.allows(Kind::MoveRecord) {
         return from;
     }
     let State {
@@ -59,7 +58,7 @@ pub(crate) fn past_moves(s: &[u8], from: Reached) -> Reached
         let Some(next) = low_after(s, at, n, m, top, low) else {
             break;
         };
-        phase = 2;
+        phase = Phase::AtMoves;
         low = next;
         at += MOVE_LEN;
     }

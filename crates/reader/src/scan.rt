@@ -1,10 +1,10 @@
 // What stands at an offset, and the judgement of one record there.
 ghost use Rattle.std.specs.Prelude.{◌≤◌, length};
-ghost use Rattle.reader.specs.Judged.{Limits};
 ghost use Rattle.reader.specs.Turns.{Stands, Turned};
 
+use crate::reached::Reached;
 use crate::steps;
-use book::{Fault, State};
+use book::{Fault, Phase};
 
 // A record's first four bytes: the length of its body, and its kind's number.
 #[derive(Clone, Copy)]
@@ -32,24 +32,16 @@ fn head_at(s: &[u8], at: usize) -> Result<Option<Head>, Fault>
     Ok(Some(Head { len, kind }))
 }
 
-// Where reading is.
-#[derive(Clone, Copy)]
-pub struct Reached {
-    pub st: State,
-    pub at: usize,
-}
-
 // Where judging the record at a place leads, or none at the end of the book.
 pub(crate) fn turn_at(s: &[u8], here: Reached) -> Result<Option<Reached>, Fault>
-    requires { Limits here.st × (here.at ≤ length s.now) }
+    requires { here.at ≤ length s.now }
     ensures { Turned s.now here.at here.st result }
 {
     let Some(head) = head_at(s, here.at)? else {
-        // An empty book is cut off.
-        return if here.st.phase == 0 {
-            Err(Fault::CutOff)
-        } else {
-            Ok(None)
+        return match here.st.phase {
+            // An empty book is cut off.
+            Phase::AtStart => Err(Fault::CutOff),
+            _ => Ok(None),
         };
     };
     let body = here.at + 4;

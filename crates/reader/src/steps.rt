@@ -6,14 +6,14 @@ ghost use Rattle.book.specs.Limits.{weights_fine, fields_fine};
 ghost use Rattle.book.specs.Parse.{weights_of, item_of, judged_as, step};
 ghost use Rattle.reader.specs.Judged.{Limits, Counted, rec};
 
-use book::{Fault, Kind, State, Step};
+use book::{Fault, Kind, Phase, State, Step};
 
 // A device record: n and m.
 fn device_step(st: State, body: &[u8]) -> Step
     ensures value { result ≡ judged_as DeviceRecord st body.now }
     ensures bounded { IfOk result Limits }
 {
-    if st.phase != 0 {
+    if !st.phase.allows(Kind::DeviceRecord) {
         return Err(Fault::WrongKind);
     }
     if body.len() != 2 {
@@ -25,7 +25,7 @@ fn device_step(st: State, body: &[u8]) -> Step
         return Err(Fault::OutOfRange);
     }
     Ok(State {
-        phase: 3,
+        phase: Phase::AtWeights,
         n,
         m,
         low: 0,
@@ -37,28 +37,16 @@ fn device_step(st: State, body: &[u8]) -> Step
 fn weights_fine(body: &[u8]) -> bool
     ensures { result ≡ weights_fine (weights_of body.now) }
 {
-    let mut at: usize = 0;
-    while at + 1 < body.len() {
-        if !limits::weight_fine(octets::u16_at(body, at)) {
-            return false;
-        }
-        at += 2;
-    }
-    true
+    body.chunks_exact(2)
+        .all(|weight| limits::weight_fine(octets::u16_at(weight, 0)))
 }
 
 // Whether each of them is 1.
 fn all_one(body: &[u8]) -> bool
     ensures { result ≡ all_one (weights_of body.now) }
 {
-    let mut at: usize = 0;
-    while at + 1 < body.len() {
-        if octets::u16_at(body, at) != 1 {
-            return false;
-        }
-        at += 2;
-    }
-    true
+    body.chunks_exact(2)
+        .all(|weight| octets::u16_at(weight, 0) == 1)
 }
 
 // A record of weights: two bytes for each command.
@@ -67,7 +55,7 @@ fn weights_step(st: State, body: &[u8]) -> Step
     ensures value { result ≡ judged_as WeightsRecord st body.now }
     ensures bounded { IfOk result Limits }
 {
-    if st.phase != 3 {
+    if !st.phase.allows(Kind::WeightsRecord) {
         return Err(Fault::WrongKind);
     }
     if body.len() != 2 * st.m as usize {
@@ -79,7 +67,10 @@ fn weights_step(st: State, body: &[u8]) -> Step
     if all_one(body) {
         return Err(Fault::OnesOnly);
     }
-    Ok(State { phase: 2, ..st })
+    Ok(State {
+        phase: Phase::AtMoves,
+        ..st
+    })
 }
 
 // A move record: state, command and mask.
@@ -88,7 +79,7 @@ fn move_step(st: State, body: &[u8]) -> Step
     ensures value { result ≡ judged_as MoveRecord st body.now }
     ensures bounded { IfOk result Limits }
 {
-    if st.phase < 2 {
+    if !st.phase.allows(Kind::MoveRecord) {
         return Err(Fault::WrongKind);
     }
     if body.len() != 10 {
@@ -105,7 +96,7 @@ fn move_step(st: State, body: &[u8]) -> Step
         return Err(Fault::NotRising);
     }
     Ok(State {
-        phase: 2,
+        phase: Phase::AtMoves,
         low: index + 1,
         ..st
     })
@@ -127,7 +118,7 @@ fn item_step(st: State, body: &[u8]) -> Step
     ensures value { result ≡ judged_as ItemRecord st body.now }
     ensures bounded { IfOk result Limits }
 {
-    if st.phase < 1 {
+    if !st.phase.allows(Kind::ItemRecord) {
         return Err(Fault::WrongKind);
     }
     if 64 <= st.items {
@@ -148,7 +139,7 @@ fn item_step(st: State, body: &[u8]) -> Step
         return Err(Fault::OutOfRange);
     }
     Ok(State {
-        phase: 1,
+        phase: Phase::AtItems,
         items: st.items + 1,
         ..st
     })

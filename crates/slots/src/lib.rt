@@ -8,8 +8,10 @@ ghost use Rattle.octets.specs.Le.{bytes_le};
 ghost use Rattle.octets.specs.Parts.{piece};
 ghost use Rattle.book.specs.Lent.{padded};
 ghost use Rattle.book.specs.Slots.{item_at, slot_fine};
-ghost use Rattle.slots.specs.Filled.{SlotFilled};
+ghost use Rattle.slots.specs.Filled.{SlotFilled, FilledFrom};
 ghost use Rattle.slots.specs.Stored.{parts_of, HasCounts};
+
+use items::Parts;
 
 // The bytes of a slot.
 pub const SLOT_LEN: usize = 34;
@@ -158,22 +160,31 @@ fn commands_at(book: &[u8], p: usize, count: usize) -> u64
 pub fn fill(book: &[u8], at: usize, slots: &mut [u8], a: u8) -> usize
     ensures { SlotFilled book.now at slots.old a slots.new result }
 {
+    let item = items::parts_at(book, at);
+    fill_from(book, item, slots, a);
+    item.next
+}
+
+// The same for who has read the parts of its record.
+pub fn fill_from(book: &[u8], item: Parts, slots: &mut [u8], a: u8)
+    ensures { FilledFrom book.now item slots.old a slots.new }
+{
     let q = start(a);
     if slots.len() < q + SLOT_LEN {
         let rest = q.min(slots.len());
-        return put(book, at, &mut slots[rest..]);
+        put(book, item, &mut slots[rest..]);
+        return;
     }
-    put(book, at, &mut slots[q..q + SLOT_LEN])
+    put(book, item, &mut slots[q..q + SLOT_LEN]);
 }
 
 // The same for a slot by itself, of 34 bytes or as many as are there. Inlined, so that no store into a whole slot tests the room.
 #[inline(always)]
-pub fn put(book: &[u8], at: usize, slot: &mut [u8]) -> usize
-    ensures { SlotFilled book.now at slot.old 0 slot.new result }
+fn put(book: &[u8], item: Parts, slot: &mut [u8])
+    ensures { FilledFrom book.now item slot.old 0 slot.new }
 {
-    let item = items::parts_at(book, at);
     if 8 < item.k || 8 < item.r {
-        return item.next;
+        return;
     }
     let forward = commands_at(book, item.forward, item.k);
     let reverse = commands_at(book, item.reverse, item.r);
@@ -184,5 +195,4 @@ pub fn put(book: &[u8], at: usize, slot: &mut [u8]) -> usize
     octets::put_le(8, reverse, slot, 10);
     octets::put_le(8, phi, slot, 18);
     octets::put_le(8, psi, slot, 26);
-    item.next
 }

@@ -7,7 +7,7 @@ pub loop-i-preserved : goal.loop-i-preserved
 loop-i-preserved c =
     let k = c.loop-i.invariant in
     let m = c.in-Some.ensures.steps in
-    let o = rw m.1 at c.fill.ensures in
+    let o = rw m.1 at c.fill_from.ensures in
     record {
       to_come = omega arith;
       same = m.0.0.0 ∙ k.same;

@@ -11,10 +11,7 @@ loop-next-init c =
     record { same = refl; limits = search rules; within = search rules; few = search rules; left = λ _ b a e. summing c.args.book.now b a e }
 
 pub turn_at-requires : goal.turn_at-requires
-turn_at-requires c =
-    let (p, l) = c.past_moves-here.ensures in
-    let (_, k) = passing_onward c.loop-next.invariant.limits p in
-    (k, l)
+turn_at-requires c = c.past_moves-here.ensures.1
 
 pub loop-next-smaller : goal.loop-next-smaller
 loop-next-smaller c =

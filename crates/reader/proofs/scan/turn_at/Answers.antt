@@ -6,13 +6,13 @@ returns-in_err-head c =
     let (torn, is) = c.in_err-head.ensures in
     handed_on c.args.s.now c.args.here.at c.args.here.st c.from_residual.result c.from_residual.ensures.1 (rw is (over_short c.args.s.now c.args.here.at c.args.here.st torn))
 
-pub returns-then-here-eq0 : goal.returns-then-here-eq0
-returns-then-here-eq0 c = over_empty c.args.s.now c.args.here.at c.args.here.st (rw c.in_default.is at c.in_ok-head.ensures) c.if-here-eq0.true
+pub returns-in-AtStart : goal.returns-in-AtStart
+returns-in-AtStart c = over_empty c.args.s.now c.args.here.at c.args.here.st (rw c.in_default.is at c.in_ok-head.ensures) c.in-AtStart.is
 
-pub returns-else-here-eq0 : goal.returns-else-here-eq0
-returns-else-here-eq0 c =
+pub returns-in_default-phase : goal.returns-in_default-phase
+returns-in_default-phase c =
     let e = rw c.in_default.is at c.in_ok-head.ensures in
-    (over_end c.args.s.now c.args.here.at c.args.here.st e c.if-here-eq0.false, e)
+    (over_end c.args.s.now c.args.here.at c.args.here.st e c.in_default-phase.not-AtStart, e)
 
 pub returns-in_err-st : goal.returns-in_err-st
 returns-in_err-st c =

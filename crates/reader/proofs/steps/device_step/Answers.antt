@@ -5,11 +5,11 @@ use Rattle.base.proofs.Picks.{tests, calls}
 use Rattle.book.proofs.Limits.{device_on}
 use Rattle.reader.proofs.steps.device_step.Goals as goal
 
-pub returns-then-st-ne0-clause-value : goal.returns-then-st-ne0-clause-value
-returns-then-st-ne0-clause-value c = search tests depth 6
+pub returns-then-not-allows-clause-value : goal.returns-then-not-allows-clause-value
+returns-then-not-allows-clause-value c = search (tests, calls) depth 6
 
 pub returns-then-body-ne2-clause-value : goal.returns-then-body-ne2-clause-value
-returns-then-body-ne2-clause-value c = search tests depth 12
+returns-then-body-ne2-clause-value c = search (tests, calls) depth 12
 
 pub returns-then-not-device_fine-clause-value : goal.returns-then-not-device_fine-clause-value
 returns-then-not-device_fine-clause-value c =

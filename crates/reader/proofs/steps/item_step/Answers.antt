@@ -5,14 +5,14 @@ use Rattle.base.proofs.Picks.{tests, calls}
 use Rattle.book.proofs.Limits.{counts_on}
 use Rattle.reader.proofs.steps.item_step.Goals as goal
 
-pub returns-then-st-lt1-clause-value : goal.returns-then-st-lt1-clause-value
-returns-then-st-lt1-clause-value c = search tests depth 6
+pub returns-then-not-allows-clause-value : goal.returns-then-not-allows-clause-value
+returns-then-not-allows-clause-value c = search (tests, calls) depth 6
 
 pub returns-then-st-ge64-clause-value : goal.returns-then-st-ge64-clause-value
-returns-then-st-ge64-clause-value c = search tests depth 6
+returns-then-st-ge64-clause-value c = search (tests, calls) depth 8
 
 pub returns-then-body-lt2-clause-value : goal.returns-then-body-lt2-clause-value
-returns-then-body-lt2-clause-value c = search tests depth 8
+returns-then-body-lt2-clause-value c = search (tests, calls) depth 10
 
 pub returns-then-not-counts_fine-clause-value : goal.returns-then-not-counts_fine-clause-value
 returns-then-not-counts_fine-clause-value c =

@@ -5,11 +5,11 @@ use Rattle.book.specs.Parse.{move_of}
 use Rattle.reader.proofs.Laws.{move_goes}
 use Rattle.reader.proofs.steps.move_step.Goals as goal
 
-pub returns-then-st-lt2-clause-value : goal.returns-then-st-lt2-clause-value
-returns-then-st-lt2-clause-value c = search tests depth 6
+pub returns-then-not-allows-clause-value : goal.returns-then-not-allows-clause-value
+returns-then-not-allows-clause-value c = search (tests, calls) depth 6
 
 pub returns-then-body-ne10-clause-value : goal.returns-then-body-ne10-clause-value
-returns-then-body-ne10-clause-value c = search tests depth 12
+returns-then-body-ne10-clause-value c = search (tests, calls) depth 12
 
 pub returns-then-not-move_fine-clause-value : goal.returns-then-not-move_fine-clause-value
 unfolding move_of
@@ -23,5 +23,5 @@ returns-then-index-st-clause-value c =
 
 pub returns-clause-value : goal.returns-clause-value
 returns-clause-value c =
-    move_goes c.args.st c.args.body.now _ _ _ c.byte_at-state.ensures.value c.byte_at-command.ensures.value c.u64_at-mask.ensures c.if-st-lt2.false
+    move_goes c.args.st c.args.body.now _ _ _ c.byte_at-state.ensures.value c.byte_at-command.ensures.value c.u64_at-mask.ensures (sym c.allows.ensures ∙ c.if-not-allows.false)
     c.if-body-ne10.false (sym c.move_fine.ensures ∙ c.if-not-move_fine.false) c.if-index-st.false

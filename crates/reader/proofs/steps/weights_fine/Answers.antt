@@ -1,23 +1,14 @@
-use mathlib.Core.Path.{sym, ap, ◌∙◌}
-use native.Mathlib.Omega.{arith}
-use Rattle.base.proofs.Decides.{left-none, left_passes, left_fails}
+-- Assumes nothing.
+use Rattle.std.proofs.Common.{rules, tests, ◌∙◌}
+use Rattle.std.proofs.lemmas.Iterator.Search.{all_from_yields_List}
 use Rattle.book.specs.Limits.{weight_fine}
+use Rattle.book.specs.Parse.{weights_of}
 use Rattle.book.proofs.Weights.{fine_decide}
-use Rattle.reader.proofs.Weights.{weight-here, weight-none}
+use Rattle.reader.proofs.Weights.{weights_come, all_decides}
 use Rattle.reader.proofs.steps.weights_fine.Goals as goal
 
-pub returns-then-not-weight_fine : goal.returns-then-not-weight_fine
-returns-then-not-weight_fine c =
-    left_fails fine_decide _ c.loop-at.invariant.left _ _ (weight-here _ c.loop-at.at c.loop-at-test.true)
-    (ap weight_fine (sym c.u16_at.ensures.value) ∙ (sym c.weight_fine.ensures ∙ c.if-not-weight_fine.true))
-
-pub loop-at-preserved : goal.loop-at-preserved
-loop-at-preserved c =
-    record {
-      left = left_passes fine_decide _ c.loop-at.invariant.left _ _ (weight-here _ c.loop-at.at c.loop-at-test.true)
-          (ap weight_fine (sym c.u16_at.ensures.value) ∙ (sym c.weight_fine.ensures ∙ c.if-not-weight_fine.false));
-      within = omega arith;
-    }
-
 pub returns : goal.returns
-returns c = left-none fine_decide _ c.loop-at.invariant.left (weight-none _ c.loop-at.at c.loop-at-test.false)
+returns c =
+    all_from_yields_List weight_fine _ _ _ c.all.ensures.ran
+    (weights_come c.args.body.now c.chunks_exact.ensures.size c.chunks_exact.ensures.rest) (λ x b q k. search (rules, tests))
+    ∙ all_decides fine_decide (weights_of c.args.body.now)

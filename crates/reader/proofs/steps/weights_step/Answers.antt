@@ -3,11 +3,11 @@ use mathlib.Core.Path.{sym, ◌∙◌}
 use Rattle.base.proofs.Picks.{tests, calls}
 use Rattle.reader.proofs.steps.weights_step.Goals as goal
 
-pub returns-then-st-ne3-clause-value : goal.returns-then-st-ne3-clause-value
-returns-then-st-ne3-clause-value c = search tests depth 6
+pub returns-then-not-allows-clause-value : goal.returns-then-not-allows-clause-value
+returns-then-not-allows-clause-value c = search (tests, calls) depth 6
 
 pub returns-then-body-st-clause-value : goal.returns-then-body-st-clause-value
-returns-then-body-st-clause-value c = search tests depth 12
+returns-then-body-st-clause-value c = search (tests, calls) depth 12
 
 pub returns-then-not-weights_fine-clause-value : goal.returns-then-not-weights_fine-clause-value
 returns-then-not-weights_fine-clause-value c = search (tests, calls) depth 16

@@ -19,7 +19,7 @@ use Rattle.book.specs.Slots.{item_at, slot_fine}
 use Rattle.book.proofs.Fields.{all_on}
 use Rattle.writer.specs.declared.Writing.{Writing}
 use Rattle.writer.specs.Lowest.{lowest_weight, lowest_entry, lowest_slot}
-use Rattle.writer.specs.Contract.{checked}
+use Rattle.writer.specs.Contract.{judgement, checked}
 use Rattle.writer.specs.Writes.{Refuses, refusal, written}
 use Rattle.writer.specs.Cases.{Spoilt}
 use Rattle.writer.proofs.Exactly.{judged, Judged, refused-is, fine-is}
@@ -40,7 +40,7 @@ refused_by n m items l out code place b e q = go (judged n m items l out h)
         absurd (omega (arith, ap (λ (w : Writing). w.code) r))
 
 pub spoilt : Spoilt
-unfolding pick both seek less clear_from any_short piece device_fine weight_fine counts_fine all_below fields_fine item_at slot_fine lowest_weight lowest_entry lowest_slot checked
+unfolding pick both seek less clear_from any_short piece device_fine weight_fine counts_fine all_below fields_fine item_at slot_fine lowest_weight lowest_entry lowest_slot judgement
 spoilt =
     record {
       short_table = refused_by _ _ _ _ _ _ _ refl refl (lit< tt);

@@ -24,7 +24,7 @@ use Rattle.book.proofs.Fields.{all_on}
 use Rattle.book.proofs.RoundTrip.{written-allowed, written-holds}
 use Rattle.writer.specs.declared.Writing.{Writing}
 use Rattle.writer.specs.Lowest.{lowest_weight, lowest_entry, lowest_slot}
-use Rattle.writer.specs.Contract.{checked, book_bytes}
+use Rattle.writer.specs.Contract.{judgement, checked, book_bytes}
 use Rattle.writer.specs.Writes.{refusal, written, Writes}
 use Rattle.writer.specs.Writes.Writes.{refused}
 use Rattle.writer.specs.Cases.{zeros}
@@ -55,7 +55,7 @@ module _ (n m items : ℕ) (l : Lent) (b : all_below 256 l.slots ≡ true) where
           (v.answer ∙ ap (λ (y : List ℕ). written (length y)) k, subst (λ (y : List ℕ). Written y (zeros 31178) out') k v.bytes)
 
 pub edges : Edges
-unfolding pick both seek less same clear_from any_short piece device_fine weight_fine counts_fine all_below fields_fine item_at slot_fine lowest_weight lowest_entry lowest_slot checked frame bytes_le two_bytes all_one weights_recs move_at moves_from items_from
+unfolding pick both seek less same clear_from any_short piece device_fine weight_fine counts_fine all_below fields_fine item_at slot_fine lowest_weight lowest_entry lowest_slot judgement frame bytes_le two_bytes all_one weights_recs move_at moves_from items_from
 edges =
     record {
       uneven = writes_to _ _ _ _ refl _ refl refl;

@@ -1,7 +1,9 @@
 -- The contract says what Writes says, both ways; so what 01 says leaves one answer only. Assumes nothing.
 use mathlib.Core.Path.{◌≡◌, refl, sym, ap, ◌∙◌, subst}
 use mathlib.Core.Logic.{◌⊎◌, inl, inr}
+use mathlib.Core.Bool.{true, false, false≢true}
 use mathlib.Core.List.{List}
+use Rattle.std.specs.Prelude.{Ok}
 use Prim.Native.Nat.{ℕ, ◌*◌, ◌<◌, ◌≤◌}
 use native.Mathlib.Omega.{arith}
 use native.Mathlib.Decide.{dec_lt}
@@ -26,11 +28,11 @@ use Rattle.book.proofs.Slots.{slot_allowed↔}
 use Rattle.book.proofs.RoundTrip.{written-allowed, held-book, held_writable}
 use Rattle.writer.specs.declared.Writing.{Writing}
 use Rattle.writer.specs.Lowest.{lowest_weight, lowest_entry, lowest_slot}
-use Rattle.writer.specs.Contract.{checked, book_bytes}
+use Rattle.writer.specs.Contract.{judgement, checked, book_bytes}
 use Rattle.writer.specs.Writes.{buffers, WeightRight, EntryRight, SlotRight, Refuses, refusal, written, BookWritten, Writes}
 use Rattle.writer.specs.Writes.Refuses.{short, device, count, weight, entry, slot}
 use Rattle.writer.specs.Writes.Writes.{refused, done}
-use Rattle.writer.proofs.Chain.{at_short, at_device, at_count, at_weight, at_entry, at_slot, at_end_lem}
+use Rattle.writer.proofs.Chain.{at_short, at_device, at_count, at_weight, at_entry, at_slot, at_end_lem, by_judgement}
 
 -- ---- the output
 module _ (book out : List ℕ) (room : length book ≤ length out) where
@@ -57,26 +59,26 @@ module _ (n m items : ℕ) (l : Lent) (out : List ℕ) (h : Bytes l.slots) where
   module _ {A : Type 0} (refuse : ℕ → ℕ → A) (fine : A) where
     pub refused-is : {code place : ℕ} → Refuses n m items l out code place → refuse code place ≡ checked n m items l out refuse fine
     unfolding lowest_weight lowest_entry lowest_slot
-    refused-is (short none) = at_short n m items l out refuse fine none
-    refused-is (device long none) = at_device n m items l out refuse fine long none
-    refused-is (count long d q) = at_count n m items l out refuse fine long d q
+    refused-is (short none) = by_judgement n m items l out refuse fine (at_short n m items l out none)
+    refused-is (device long none) = by_judgement n m items l out refuse fine (at_device n m items l out long none)
+    refused-is (count long d q) = by_judgement n m items l out refuse fine (at_count n m items l out long d q)
     refused-is (weight {c} long d few w) =
         let e : lowest_weight m l.weights ≡ c = wrong-lowest _ m weights_tell c w in
-        ap (refuse 5) (sym e) ∙ at_weight n m items l out refuse fine long d few (omega (arith, w.inside))
+        ap (refuse 5) (sym e) ∙ by_judgement n m items l out refuse fine (at_weight n m items l out long d few (omega (arith, w.inside)))
     refused-is (entry {i} long d few g w) =
         let e : lowest_entry n (n * m) l.table ≡ i = wrong-lowest _ (n * m) entries_tell i w in
-        ap (refuse 5) (sym e) ∙ at_entry n m items l out refuse fine long d few (wrong-none _ m weights_tell g) (omega (arith, w.inside))
+        ap (refuse 5) (sym e) ∙ by_judgement n m items l out refuse fine (at_entry n m items l out long d few (wrong-none _ m weights_tell g) (omega (arith, w.inside)))
     refused-is (slot {i} long d few g f w) =
         let e : lowest_slot n m items l.slots ≡ i = wrong-lowest _ items (slots_tell d) i w in
         ap (refuse 5) (sym e)
-        ∙ at_slot n m items l out refuse fine long d few (wrong-none _ m weights_tell g) (wrong-none _ (n * m) entries_tell f) (omega (arith, w.inside))
+        ∙ by_judgement n m items l out refuse fine (at_slot n m items l out long d few (wrong-none _ m weights_tell g) (wrong-none _ (n * m) entries_tell f) (omega (arith, w.inside)))
 
     pub fine-is : LongEnough (buffers l out) → Writable n m items l → fine ≡ checked n m items l out refuse fine
     unfolding lowest_weight lowest_entry lowest_slot
     fine-is long w =
-        at_end_lem n m items l out refuse fine long w.device w.few (wrong-none _ m weights_tell w.each_weight)
+        by_judgement n m items l out refuse fine (at_end_lem n m items l out long w.device w.few (wrong-none _ m weights_tell w.each_weight)
         (wrong-none _ (n * m) entries_tell w.entries)
-        (wrong-none _ items (slots_tell w.device) (λ i q. (slots_tell w.device).on i q (w.each_slot i q)))
+        (wrong-none _ items (slots_tell w.device) (λ i q. (slots_tell w.device).on i q (w.each_slot i q))))
 
   -- ---- one of the cases holds
   abbrev pub Judged : Type 0
@@ -123,6 +125,15 @@ module _ (n m items : ℕ) (l : Lent) (out : List ℕ) (h : Bytes l.slots) where
       on_long : Dec (LongEnough (buffers l out)) → Judged
       on_long (yes long) = on_device long (device_or_not n m)
       on_long (no q) = inl (1, 0, short q)
+
+  -- where the tests give no fault, all may be written
+  pub none-refused : Ok tt ≡ judgement n m items l out → LongEnough (buffers l out) × Writable n m items l
+  none-refused e = go judged
+    where
+      go : Judged → LongEnough (buffers l out) × Writable n m items l
+      go (inl (code, place, q)) =
+          absurd (false≢true (refused-is (λ code place. false) true q ∙ sym (by_judgement n m items l out (λ code place. false) true e)))
+      go (inr w) = w
 
   pub book-room : LongEnough (buffers l out) → Writable n m items l → length (book_bytes n m items l) ≤ length out
   book-room long w =

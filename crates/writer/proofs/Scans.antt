@@ -9,8 +9,8 @@ use native.Mathlib.Omega.{arith}
 use mathlib.Core.List.{List}
 use lib.ListN.{get_or}
 use lib.Bits.{bit_or}
-use Rattle.std.specs.Prelude.{Option, None, Some}
-use Rattle.std.specs.Option.{unwrap_or, option_map}
+use Rattle.std.specs.Prelude.{Option, None, Some, Ok}
+use Rattle.std.specs.Option.{option_map}
 use Rattle.std.specs.List.{find, list_all, range_with_len}
 use Rattle.base.specs.Tests.{pick, both}
 use Rattle.base.specs.Compare.{same}
@@ -22,27 +22,29 @@ use Rattle.base.proofs.Masks.{clear↔, in_or_l, in_or_r}
 use Rattle.base.specs.Bounded.{seek}
 use Rattle.base.proofs.Picks as P
 use Rattle.octets.specs.Parts.{piece}
-use Rattle.writer.specs.Lowest.{entry_wrong, lowest_entry}
+use Rattle.writer.specs.Lowest.{entry_wrong, lowest_entry, unless_below, found_wrong}
 
 -- ---- the lowest number that passes a test
-found_first : (b : Bool) (i n m : ℕ) (o : Option ℕ) → unwrap_or o n ≡ m → unwrap_or (cond b (Some i) o) n ≡ pick b i m
+first_wrong : (b : Bool) (i n m : ℕ) (o : Option ℕ) → i < n → found_wrong o ≡ unless_below m n (Ok tt)
+    → found_wrong (cond b (Some i) o) ≡ unless_below (pick b i m) n (Ok tt)
 unfolding pick
-found_first true i n m o e = refl
-found_first false i n m o e = e
+first_wrong true i n m o l e = P.less_yes _ _ _ i n l refl
+first_wrong false i n m o l e = e
 
-seek_found : (f : ℕ → Bool) (k i : ℕ) → unwrap_or (find f (range_with_len i k)) (i + k) ≡ seek f i k
+seek_wrong : (f : ℕ → Bool) (k i : ℕ) → found_wrong (find f (range_with_len i k)) ≡ unless_below (seek f i k) (i + k) (Ok tt)
 unfolding seek
-seek_found f zero i = add-zero i
-seek_found f (suc k) i =
+seek_wrong f zero i = P.less_no _ _ _ i (i + 0) (omega arith) refl
+seek_wrong f (suc k) i =
     let e : i + suc k ≡ i + 1 + k = omega arith in
-    found_first (f i) i (i + suc k) (seek f (suc i) k) (find f (range_with_len (i + 1) k)) (rw (e, ← add-one i) (seek_found f k (i + 1)))
+    first_wrong (f i) i (i + suc k) (seek f (suc i) k) (find f (range_with_len (i + 1) k)) (omega arith) (rw (e, ← add-one i) (seek_wrong f k (i + 1)))
 
 itself : (o : Option ℕ) → o ≡ option_map (λ x. x) o
 itself None = refl
 itself (Some x) = refl
 
-pub first_found : (f : ℕ → Bool) (k : ℕ) (r : Option ℕ) → option_map (λ x. x) r ≡ find f (range_with_len 0 k) → unwrap_or r k ≡ seek f 0 k
-first_found f k r e = ap (λ o. unwrap_or o k) (itself r ∙ e) ∙ (rw (zero-add k) at (seek_found f k 0))
+pub first_found : (f : ℕ → Bool) (k : ℕ) (r : Option ℕ) → option_map (λ x. x) r ≡ find f (range_with_len 0 k)
+    → found_wrong r ≡ unless_below (seek f 0 k) k (Ok tt)
+first_found f k r e = ap found_wrong (itself r ∙ e) ∙ (rw (zero-add k) at (seek_wrong f k 0))
 
 -- none passes it
 seek-none : (f : ℕ → Bool) (k i : ℕ) → ((x : ℕ) → i ≤ x → x < i + k → f x ≡ false) → i + k ≡ seek f i k
@@ -52,9 +54,13 @@ seek-none f (suc k) i h =
     P.no _ _ _ (f i) (h i (omega arith) (omega arith))
     (let e : i + suc k ≡ suc i + k = omega arith in e ∙ seek-none f k (suc i) (λ x l b. h x (omega arith) (omega arith)))
 
-pub no_entry : (n k : ℕ) (t : List ℕ) → ((i : ℕ) → i < k → clear_from n (get_or t i 0) ≡ true) → k ≡ lowest_entry n k t
+no_entry : (n k : ℕ) (t : List ℕ) → ((i : ℕ) → i < k → clear_from n (get_or t i 0) ≡ true) → k ≡ lowest_entry n k t
 unfolding lowest_entry
 no_entry n k t h = sym (zero-add k) ∙ seek-none (entry_wrong n t) k 0 (λ x l b. ap not (h x (omega arith)))
+
+pub no_wrong_entry : (n k : ℕ) (t : List ℕ) → ((i : ℕ) → i < k → clear_from n (get_or t i 0) ≡ true)
+    → Ok tt ≡ unless_below (lowest_entry n k t) k (Ok tt)
+no_wrong_entry n k t h = P.less_no _ _ _ (lowest_entry n k t) k (omega (arith, no_entry n k t h)) refl
 
 -- ---- the union of the entries so far
 clear_or : (n a b : ℕ) → clear_from n (bit_or a b) ≡ true → (clear_from n a ≡ true) × (clear_from n b ≡ true)

@@ -1,15 +1,26 @@
-// What writing refuses: weights out of range, entries with a bit at n or above, slots that hold no item as it should stand there.
-ghost use Rattle.std.specs.Prelude.{◌≡◌, true, ℕ, ◌≤◌, ◌<◌, length, get_or};
+// What writing refuses: weights out of range, entries with a bit at n or above, slots that hold no item as it should stand there. Each is out of range, at
+// the lowest place that is wrong.
+ghost use Rattle.std.specs.Prelude.{◌≡◌, true, ℕ, ◌≤◌, ◌<◌, length, get_or, Ok};
 ghost use Rattle.base.specs.Masks.{clear_from};
-ghost use Rattle.writer.specs.Lowest.{lowest_weight, lowest_entry, lowest_slot};
+ghost use Rattle.writer.specs.Lowest.{lowest_weight, lowest_entry, lowest_slot, unless_below, found_wrong};
 
-// The lowest of the first k weights that no command may have; k where there is none.
-pub(crate) fn lowest_weight(k: usize, w: &[u16]) -> usize
-    ensures { result ≡ lowest_weight k w.now }
+use book::{Fault, FaultAt};
+
+// Out of range at the place that was found, if there is one.
+fn unless_found(wrong: Option<usize>) -> Result<(), FaultAt>
+    ensures { result ≡ found_wrong wrong }
 {
-    (0..k)
-        .find(|&i| !limits::weight_fine(octets::word_at(w, i)))
-        .unwrap_or(k)
+    match wrong {
+        Some(place) => Err(Fault::OutOfRange.at(place as u64)),
+        None => Ok(()),
+    }
+}
+
+// The first k weights: each is one that a command may have.
+pub(crate) fn judge_weights(k: usize, w: &[u16]) -> Result<(), FaultAt>
+    ensures { result ≡ unless_below (lowest_weight k w.now) k (Ok tt) }
+{
+    unless_found((0..k).find(|&i| !limits::weight_fine(octets::word_at(w, i))))
 }
 
 // All states of the first k entries.
@@ -24,26 +35,21 @@ fn union(k: usize, t: &[u64]) -> u64
     all
 }
 
-// The lowest of the first k entries with a bit at n or above; k where there is none: at once where n is 64, or where
-// their union has no such bit.
-pub(crate) fn lowest_entry(n: u64, k: usize, t: &[u64]) -> usize
+// The first k entries: none has a bit at n or above; at once where n is 64, or where their union has no such bit.
+pub(crate) fn judge_entries(n: u64, k: usize, t: &[u64]) -> Result<(), FaultAt>
     requires { (k ≤ 2048) × (k ≤ length t.now) }
-    ensures { result ≡ lowest_entry n k t.now }
+    ensures { result ≡ unless_below (lowest_entry n k t.now) k (Ok tt) }
 {
     if 64 <= n || limits::mask_fine(union(k, t), n) {
-        return k;
+        return Ok(());
     }
-    (0..k)
-        .find(|&i| !limits::mask_fine(octets::entry_at(t, i), n))
-        .unwrap_or(k)
+    unless_found((0..k).find(|&i| !limits::mask_fine(octets::entry_at(t, i), n)))
 }
 
-// The lowest of the first c slots that is not fine; c where there is none.
-pub(crate) fn lowest_slot(n: u64, m: u64, c: usize, s: &[u8]) -> usize
+// The first c slots: each is fine.
+pub(crate) fn judge_slots(n: u64, m: u64, c: usize, s: &[u8]) -> Result<(), FaultAt>
     requires { c ≤ 64 }
-    ensures { result ≡ lowest_slot n m c s.now }
+    ensures { result ≡ unless_below (lowest_slot n m c s.now) c (Ok tt) }
 {
-    (0..c)
-        .find(|&i| !slots::fine(s, i as u8, n, m))
-        .unwrap_or(c)
+    unless_found((0..c).find(|&i| !slots::fine(s, i as u8, n, m)))
 }

@@ -8,10 +8,10 @@ ghost use Rattle.std.specs.Prelude.{◌≡◌};
 ghost use Rattle.book.specs.Faults.{code_of};
 ghost use Rattle.book.specs.Lent.{lent};
 ghost use Rattle.writer.specs.Writes.{refusal};
-ghost use Rattle.writer.specs.Contract.{WriteAs};
+ghost use Rattle.writer.specs.Contract.{judgement, WriteAs};
 
-use book::Fault;
-use checks::{lowest_entry, lowest_slot, lowest_weight};
+use book::{Fault, FaultAt};
+use checks::{judge_entries, judge_slots, judge_weights};
 use records::put_book;
 
 // The bytes that the lent output must hold: those of the largest book that writing writes.
@@ -27,14 +27,47 @@ pub struct Writing {
 }
 
 // A refusal, whose length is 0.
-fn refused(fault: Fault, place: u64) -> Writing
-    ensures { result ≡ refusal (code_of fault) place }
-{
-    Writing {
-        code: fault.into(),
-        place,
-        length: 0,
+impl From<FaultAt> for Writing {
+    ghost from_gives = { λ fault writing. writing ≡ refusal (code_of fault.fault) fault.place };
+
+    fn from(fault: FaultAt) -> Writing {
+        Writing {
+            code: fault.fault.into(),
+            place: fault.place,
+            length: 0,
+        }
     }
+}
+
+// Why there is no book in these buffers, if so: the first fault, in the order of 01 and 02, and its place.
+fn judge(
+    n: u64,
+    m: u64,
+    items: u64,
+    table: &[u64],
+    slots: &[u8],
+    weights: &[u16],
+    out: &[u8],
+) -> Result<(), FaultAt>
+    ensures { result ≡ judgement n m items (lent table.now slots.now weights.now) out.now }
+{
+    if table.len() < book::TABLE_LEN
+        || slots.len() < book::SLOTS_LEN
+        || weights.len() < book::WEIGHTS_LEN
+        || out.len() < OUT_LEN
+    {
+        return Err(Fault::ShortBuffer.at(0));
+    }
+    if !limits::device_fine(n, m) {
+        return Err(Fault::OutOfRange.at(0));
+    }
+    if 64 < items {
+        return Err(Fault::TooManyItems.at(0));
+    }
+    let cells = (n * m) as usize;
+    judge_weights(m as usize, weights)?;
+    judge_entries(n, cells, table)?;
+    judge_slots(n, m, items as usize, slots)
 }
 
 // Writes the book at the start of `out`, or answers why there is none and leaves `out` as it was.
@@ -50,40 +83,10 @@ pub fn write(
     ensures { WriteAs n m items (lent table.now slots.now weights.now) out.old result
         out.new }
 {
-    if table.len() < book::TABLE_LEN {
-        return refused(Fault::ShortBuffer, 0);
+    if let Err(fault) = judge(n, m, items, table, slots, weights, out) {
+        return fault.into();
     }
-    if slots.len() < book::SLOTS_LEN {
-        return refused(Fault::ShortBuffer, 0);
-    }
-    if weights.len() < book::WEIGHTS_LEN {
-        return refused(Fault::ShortBuffer, 0);
-    }
-    if out.len() < OUT_LEN {
-        return refused(Fault::ShortBuffer, 0);
-    }
-    if !limits::device_fine(n, m) {
-        return refused(Fault::OutOfRange, 0);
-    }
-    if 64 < items {
-        return refused(Fault::TooManyItems, 0);
-    }
-    let commands = m as usize;
-    let command = lowest_weight(commands, weights);
-    if command < commands {
-        return refused(Fault::OutOfRange, command as u64);
-    }
-    let cells = (n * m) as usize;
-    let entry = lowest_entry(n, cells, table);
-    if entry < cells {
-        return refused(Fault::OutOfRange, entry as u64);
-    }
-    let count = items as usize;
-    let slot = lowest_slot(n, m, count, slots);
-    if slot < count {
-        return refused(Fault::OutOfRange, slot as u64);
-    }
-    let length = put_book(n, m, count, table, slots, weights, out);
+    let length = put_book(n, m, items as usize, table, slots, weights, out);
     Writing {
         code: 0,
         place: 0,

@@ -8,13 +8,15 @@ ghost use Rattle.book.specs.Slots.{item_at};
 ghost use Rattle.book.specs.Buffers.{book_from};
 ghost use Rattle.writer.specs.Records.{move, entry_row, moves_bytes, item_head, items_bytes, CountsFine};
 
+use book::Kind;
+
 // The record of the device, from 0 on.
 fn put_device(n: u64, m: u64, d: &mut [u8])
     requires { (n < 256) × (m < 256) }
     ensures { d.new ≡ sets d.old 0 (frame (device_rec n m)) }
 {
     octets::put_le(2, 2, d, 0);
-    octets::put_le(2, 1, d, 2);
+    octets::put_le(2, Kind::DeviceRecord as u64, d, 2);
     octets::put_le(1, n, d, 4);
     octets::put_le(1, m, d, 5);
 }
@@ -47,7 +49,7 @@ fn put_weights(m: usize, w: &[u16], d: &mut [u8]) -> usize
         return 6;
     }
     octets::put_le(2, 2 * m as u64, d, 6);
-    octets::put_le(2, 5, d, 8);
+    octets::put_le(2, Kind::WeightsRecord as u64, d, 8);
     put_each(m, w, d, 10);
     10 + 2 * m
 }
@@ -58,7 +60,7 @@ fn put_move(state: u64, command: u64, mask: u64, d: &mut [u8])
     ensures { d.new ≡ sets d.old 0 (frame (move_rec (move state command mask))) }
 {
     octets::put_le(2, 10, d, 0);
-    octets::put_le(2, 2, d, 2);
+    octets::put_le(2, Kind::MoveRecord as u64, d, 2);
     octets::put_le(1, state, d, 4);
     octets::put_le(1, command, d, 5);
     octets::put_le(8, mask, d, 6);
@@ -113,7 +115,7 @@ fn put_head(k: u64, r: u64, d: &mut [u8])
     ensures { d.new ≡ sets d.old 0 (item_head k r) }
 {
     octets::put_le(2, 18 + k + r, d, 0);
-    octets::put_le(2, 3, d, 2);
+    octets::put_le(2, Kind::ItemRecord as u64, d, 2);
     octets::put_le(1, k, d, 4);
     octets::put_le(1, r, d, 5);
 }

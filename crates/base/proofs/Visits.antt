@@ -7,9 +7,8 @@ use Prim.Native.Nat.{ℕ, zero, suc, ◌+◌, ◌-◌, ◌*◌, ◌/◌, ◌%◌
 use native.Mathlib.Nat.{lt_of_lt_of_le, mod-eq_of_lt}
 use native.Mathlib.Omega.{arith}
 use native.Mathlib.Decide.{dec_lt}
-use borrow.Author.Tests.{not-true, not-false, eqb-true}
+use borrow.Author.Tests.{not-false, eqb-true}
 use lib.Bits.{bit_and, and_step, and_self, and_mask, and_le_r}
-use lib.Count.{count_trailing_zeros}
 use lib.Dec.{eqb, eqb→eq}
 use lib.Pow.{field, mod-mod-pow, pow_mono}
 use Rattle.base.specs.Sets.{In}
@@ -17,9 +16,9 @@ use Rattle.base.specs.Tests.{pick}
 use Rattle.base.specs.Cardinality.{member, present}
 use Rattle.base.specs.Masks.{lowest_in, without}
 use Rattle.base.proofs.Tests.{T_true, true_t, eq_t, test_same}
-use Rattle.base.proofs.Masks.{not-member, and_in, half_member, member_in, in_member, in_zero, in_or_not, in_le, one_in, below_clear, shl_one}
+use Rattle.base.proofs.Masks.{not-member, half_member, member_in, in_member, in_zero, in_or_not, in_le, one_in, below_clear, shl_one}
 use Rattle.base.proofs.Present.{present-same}
-use Rattle.base.proofs.Trailing.{lowest-there, none-lower, lowest-is, trailing_zeros_lowest}
+use Rattle.base.proofs.Trailing.{lowest-there, none-lower, lowest-is}
 use Rattle.base.proofs.Visiting.{gathered, Visiting, visit_next, visit_end}
 
 none_in : (w s : ℕ) → w ≡ 0 → In w s → ⊥
@@ -82,17 +81,7 @@ member-low n w s l =
     let b : w % 2 ^ n / 2 ^ s % 2 ≡ w / 2 ^ s % 2 = rw (← e, field w (j + 1) s) (mod-mod-pow (w / 2 ^ s) j 1) in
     ap (λ (x : ℕ). eqb x 1) b
 
--- the lowest state is in the set, and those of an intersection are in each
-pub lowest-member : (w : ℕ) → (w ≡ 0 → ⊥) → w < 2 ^ 64 → member w (count_trailing_zeros 64 w) ≡ true
-lowest-member w f l = T_true _ (in_member w (count_trailing_zeros 64 w) (trailing_zeros_lowest w f l).there)
-
-pub both-member : (a b s : ℕ) → member (bit_and a b) s ≡ true → member a s ≡ true
-both-member a b s e = T_true _ (in_member a s (and_in a b s (member_in (bit_and a b) s (true_t _ e))).0)
-
 -- ---- the test that ends the loop
-pub some_left : {r : Bool} {w : ℕ} → r ≡ eqb w 0 → not r ≡ true → w ≡ 0 → ⊥
-some_left {r} e t z = false≢true (sym (not-true r t) ∙ e ∙ rw z)
-
 pub none_left : {r : Bool} {w : ℕ} → r ≡ eqb w 0 → not r ≡ false → w ≡ 0
 none_left {r} e t = eqb-true _ 0 (sym e ∙ not-false r t)
 

@@ -7,7 +7,7 @@ use Prim.Native.Nat.{ℕ, ◌+◌, ◌-◌, ◌≤◌, ◌<◌}
 use native.Mathlib.Omega.{arith}
 use lib.Bits.{bit_and}
 use lib.ListN.{length, get_or}
-use Rattle.std.specs.Prelude.{Result, Err}
+use Rattle.std.specs.Prelude.{Result, Err, Some}
 use Rattle.base.specs.Lists.{Bytes}
 use Rattle.base.proofs.Lists.{each_of}
 use Rattle.octets.specs.Le.{bytes_le}
@@ -21,7 +21,7 @@ use Rattle.reversal.specs.Computed.Sets.{ends, reverses, effective}
 use Rattle.reversal.specs.Computed.Units.{item_made}
 use Rattle.book.specs.Book.{Book, device_of, AllowedBook, bytes_of, WellFormed, items_of}
 use Rattle.items.specs.declared.Parts.{Parts}
-use Rattle.items.specs.Items.{ItemStands, item_in, held_in, PartsAt}
+use Rattle.items.specs.Items.{ItemStands, item_in, held_in, PartsAt, ItemComes}
 use Rattle.items.proofs.Laws.{allowed, item_is, k-held, r_held}
 use Rattle.checker.specs.declared.Reason.TheVariants.{NoReversePlan, NotEffective}
 use Rattle.checker.specs.Contract.{back_of, judgement_of, wrong_for}
@@ -37,10 +37,14 @@ pub record AtItem (d : Device) (s : List ℕ) (at made : ℕ) (p : Parts) : Type
   pub more : at < length s
   pub parts : PartsAt s at p
 
-pub at_item : {d : Device} {s : List ℕ} {at made : ℕ} {p : Parts} → ((k : ℕ) → k < length s → get_or s k 0 < 256) → (d.n ≤ 64) × (d.m ≤ 32) × WellFormed s
-    → ((b : Book) → AllowedBook b → bytes_of b ≡ s → Walking d s b at made) → at < length s → PartsAt s at p → AtItem d s at made p
-at_item {s = s} bytes (few, m, formed) walk more parts =
-    record { bytes = each_of (λ x. x < 256) s 0 bytes; formed = formed; few = few; walk = walk; more = more; parts = parts }
+-- as the walk of `ItemRecords` gives them
+pub at_item : {d : Device} {s u u' : List ℕ} {at p at' made : ℕ} {x : Parts} → ((k : ℕ) → k < length s → get_or s k 0 < 256)
+    → (d.n ≤ 64) × (d.m ≤ 32) × WellFormed s → u ≡ s → ((b : Book) → AllowedBook b → bytes_of b ≡ s → Walking d s b at made)
+    → ItemComes u at (Some (p, x)) u' at' → AtItem d s p made x
+at_item {s = s} bytes (few, m, formed) same walk come =
+    let (more, place, parts, next) = rw same at come.1 in
+    rw place (
+    record { bytes = each_of (λ x. x < 256) s 0 bytes; formed = formed; few = few; walk = walk; more = more; parts = parts })
 
 module _ {d : Device} {s : List ℕ} {at made : ℕ} {p : Parts} (i : AtItem d s at made p) where
   there : (b : Book) (a : AllowedBook b) (e : bytes_of b ≡ s) → ItemStands s b (i.walk b a e).number at

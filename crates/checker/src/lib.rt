@@ -163,40 +163,37 @@ fn judge_items<D: Outcomes>(book: &[u8], device: &D) -> Result<u64, Rejected>
     requires { ((D.device device.now).n ≤ 64) × ((D.device device.now).m ≤ 32) × WellFormed book.now }
     ensures { JudgedAs book.now (D.device device.now) result }
 {
-    let mut at = items::first_item(book);
     let mut units = 0;
-    'items: loop {
-        if book.len() <= at {
-            break Ok(units);
-        }
-        let item = items::parts_at(book, at);
-        let phi = items::phi(book, item);
-        let psi = items::psi(book, item);
-        let forward = octets::u64_at(book, item.forward);
-        let reverse = octets::u64_at(book, item.reverse);
-        let mut used = false;
-        for start in StateSet::of(psi).below(device.n()) {
-            let mut ends = StateSet::of(0).add(start);
-            let mut rest = forward;
-            for j in 0..item.k {
-                ends = ends.after(device, rest % 256);
-                rest /= 256;
-            }
-            ends = ends.within(phi);
-            let back = runs_on(ends, device, reverse, item.r, start);
-            units += (item.k + item.r) as u64;
-            if !ends.is_empty() {
-                used = true;
-                if let Err(behind) = back {
-                    // The commands behind the one that couldn't be carried out were not applied.
-                    break 'items Err(wrong(at, Reason::NoReversePlan, units - behind as u64));
+    'items: {
+        for (at, item) in items::records(book, items::first_item(book)) {
+            let phi = items::phi(book, item);
+            let psi = items::psi(book, item);
+            let forward = octets::u64_at(book, item.forward);
+            let reverse = octets::u64_at(book, item.reverse);
+            let mut used = false;
+            for start in StateSet::of(psi).below(device.n()) {
+                let mut ends = StateSet::of(0).add(start);
+                let mut rest = forward;
+                for j in 0..item.k {
+                    ends = ends.after(device, rest % 256);
+                    rest /= 256;
+                }
+                ends = ends.within(phi);
+                let back = runs_on(ends, device, reverse, item.r, start);
+                units += (item.k + item.r) as u64;
+                if !ends.is_empty() {
+                    used = true;
+                    if let Err(behind) = back {
+                        // The commands behind the one that couldn't be carried out were not applied.
+                        break 'items Err(wrong(at, Reason::NoReversePlan, units - behind as u64));
+                    }
                 }
             }
+            if !used {
+                break 'items Err(wrong(at, Reason::NotEffective, units));
+            }
         }
-        if !used {
-            break Err(wrong(at, Reason::NotEffective, units));
-        }
-        at = item.next;
+        Ok(units)
     }
 }
 

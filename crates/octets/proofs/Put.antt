@@ -3,13 +3,13 @@ use mathlib.Core.Path.{◌≡◌, refl, sym, ap, ◌∙◌, subst}
 use mathlib.Core.Bool.{Bool, true, false, not}
 use mathlib.Core.List.{List, [], ◌∷◌, ◌++◌, append_assoc, append-nil}
 use Prim.Native.Nat.{ℕ, zero, suc, ◌+◌, ◌-◌, ◌*◌, ◌/◌, ◌%◌, ◌^◌, ◌≤◌, ◌<◌}
-use native.Mathlib.Nat.{add-zero, sub-zero}
+use native.Mathlib.Nat.{add-zero}
 use native.Mathlib.Numerals.{add-one}
 use native.Mathlib.Decide.{dec_lt}
 use native.Mathlib.Omega.{arith}
-use borrow.Author.Tests.{leb-true, leb-false, le-leb, lt-leb}
+use borrow.Author.Tests.{leb-false}
 use lib.Dec.{T, leb}
-use lib.ListN.{length, get_or, set, take, drop, replicate, length-drop, length-append, drop_of_length-le, get_or-eq_default}
+use lib.ListN.{length, get_or, set, take, drop, length-drop, length-append, drop_of_length-le, get_or-eq_default}
 use lib.Pow.{mod-pow-add}
 use lib.Seq.{set_out, set-set, set_comm, sets, sets-eq, drop-cons, drop-drop, take_at, length-take-le}
 use Rattle.base.specs.Lists.{Each, Bytes}
@@ -74,7 +74,7 @@ pub over : {l : List ℕ} {at : ℕ} {d e : List ℕ} (xs ys : List ℕ) → Wro
     → length ys ≤ length zs → e ≡ sets d p zs → Wrote l at (xs ++ zs) e
 over {l} {at} xs ys w p zs h k q = record { is = q ∙ (ap (λ (x : List ℕ). sets x p zs) w.is ∙ sets_over l at p xs ys zs h k) }
 
--- ---- the loop of `put_le`, in the form that `search` applies backwards: what is left to store gives the whole
+-- ---- the loop of `put_all`: what is left to store gives the whole
 module _ (whole : List ℕ) (left x to : ℕ) where
   pub put_again : (d : List ℕ) → sets d to (bytes_le left x) ≡ whole → (left ≡ 0 → ⊥)
       → sets (set d to (x % 256)) (to + 1) (bytes_le (left - 1) (x / 256)) ≡ whole
@@ -87,64 +87,7 @@ module _ (whole : List ℕ) (left x to : ℕ) where
   unfolding bytes_le
   put_none d w h = rw h at w
 
-  pub put_past : (d : List ℕ) → sets d to (bytes_le left x) ≡ whole → length d ≤ to → d ≡ whole
-  put_past d w h = sym (sets_past d to (bytes_le left x) h) ∙ w
-
--- ---- the loop of `fill`
-module _ (whole : List ℕ) (left b to : ℕ) where
-  pub fill_again : (d : List ℕ) → sets d to (replicate left b) ≡ whole → (left ≡ 0 → ⊥) → sets (set d to b) (to + 1) (replicate (left - 1) b) ≡ whole
-  fill_again d w h =
-      let e : left ≡ suc (left - 1) = omega arith in
-      rw (add-one to) (rw e at w)
-
-  pub fill_none : (d : List ℕ) → sets d to (replicate left b) ≡ whole → left ≡ 0 → d ≡ whole
-  fill_none d w h = rw h at w
-
-  pub fill_past : (d : List ℕ) → sets d to (replicate left b) ≡ whole → length d ≤ to → d ≡ whole
-  fill_past d w h = sym (sets_past d to (replicate left b) h) ∙ w
-
--- ---- the loop of `copy`
-pub copy_start : (n : ℕ) (s : List ℕ) (p : ℕ) (d : List ℕ) (q : ℕ) → sets d q (piece (n - 0) s (p + 0)) ≡ sets d q (piece n s p)
-copy_start n s p d q = rw (sub-zero, add-zero p)
-
--- with one counter for both places
-pub copy_first : (n : ℕ) (s : List ℕ) (p : ℕ) (d : List ℕ) (q : ℕ) → sets d (q + 0) (piece (n - 0) s (p + 0)) ≡ sets d q (piece n s p)
-copy_first n s p d q = rw (add-zero q) (copy_start n s p d q)
-
-module _ (n : ℕ) (s : List ℕ) (p : ℕ) (whole : List ℕ) (i to : ℕ) where
-  pub copy_again : (d : List ℕ) (b : ℕ) → sets d to (piece (n - i) s (p + i)) ≡ whole → b ≡ get_or s (p + i) 0 → i ≤ n → (i ≡ n → ⊥)
-      → sets (set d to b) (to + 1) (piece (n - (i + 1)) s (p + (i + 1))) ≡ whole
-  unfolding piece
-  copy_again d b w e h ne =
-      let x : n - i ≡ suc (n - (i + 1)) = omega arith in
-      let g : p + (i + 1) ≡ suc (p + i) = omega arith in
-      rw (add-one to, e, g) (rw x at w)
-
-  pub copy_none : (d : List ℕ) → sets d to (piece (n - i) s (p + i)) ≡ whole → i ≡ n → d ≡ whole
-  unfolding piece
-  copy_none d w h = let e : n - i ≡ 0 = omega arith in rw e at w
-
-  pub copy_past : (d : List ℕ) → sets d to (piece (n - i) s (p + i)) ≡ whole → length d ≤ to → d ≡ whole
-  copy_past d w h = sym (sets_past d to (piece (n - i) s (p + i)) h) ∙ w
-
-pub copy_next : (n : ℕ) (s : List ℕ) (p : ℕ) (whole : List ℕ) (i q : ℕ) (d : List ℕ) (b : ℕ) → sets d (q + i) (piece (n - i) s (p + i)) ≡ whole
-    → b ≡ get_or s (p + i) 0 → i < n → sets (set d (q + i) b) (q + (i + 1)) (piece (n - (i + 1)) s (p + (i + 1))) ≡ whole
-copy_next n s p whole i q d b w e h =
-    let f : q + (i + 1) ≡ q + i + 1 = omega arith in
-    rw f (copy_again n s p whole i (q + i) d b w e (omega arith) (λ z. omega arith))
-
 -- ---- the test for room
-pub room-same : (len at n : ℕ) → at ≤ len → leb n (len - at) ≡ leb (at + n) len
-room-same len at n h = go (dec_lt len (at + n))
-  where
-    go : Dec (len < at + n) → leb n (len - at) ≡ leb (at + n) len
-    go (yes l) = lt-leb n (len - at) (omega arith) ∙ sym (lt-leb (at + n) len l)
-    go (no l) = le-leb n (len - at) (omega arith) ∙ sym (le-leb (at + n) len (omega arith))
-
-pub room_is : (r : Bool) (len at n : ℕ) → r ≡ leb (at + n) len → not r ≡ false → at + n ≤ len
-room_is true len at n e f = leb-true (at + n) len (sym e)
-room_is false len at n e f = absurd (subst T f tt)
-
 pub no_room : (r : Bool) (len at n : ℕ) → r ≡ leb (at + n) len → not r ≡ true → len < at + n
 no_room true len at n e f = absurd (subst (λ (t : Bool). T (not t)) f tt)
 no_room false len at n e f = leb-false (at + n) len (sym e)

@@ -58,9 +58,6 @@ module _ {A : Type 0} (step : A → ℕ → A) (n : ℕ) where
       }
 
   module _ (whole a : A) (xs : List ℕ) (h : Coming whole a xs) where
-    pub coming_below : (s : ℕ) (ys : List ℕ) → xs ≡ s ∷ ys → s < n
-    coming_below s ys e = (rw e at h.below).0
-
     pub coming_next : (s : ℕ) (ys : List ℕ) → xs ≡ s ∷ ys → Coming whole (step a s) ys
     coming_next s ys e = record { below = (rw e at h.below).1; gives = rw e at h.gives }
 

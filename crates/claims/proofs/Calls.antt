@@ -1,5 +1,5 @@
 -- The claims of each call, of any routine that keeps the call's contract. Assumes nothing.
-use mathlib.Core.Path.{◌≡◌, refl, subst, subst⁻¹, subst₂}
+use mathlib.Core.Path.{◌≡◌, subst, subst⁻¹, subst₂}
 use mathlib.Core.List.{List}
 use Prim.Native.Nat.{ℕ, ◌≤◌}
 use lib.ListN.{length}

@@ -523,11 +523,11 @@ pub visiting : VisitClaims by_table visit_by_table sent_by_table
 visiting =
     visit_claims by_table visit_by_table sent_by_table
     (λ κ M 𝓤 𝓛 𝓜 𝓡 w.
-      visit-met 𝓤 𝓛 𝓜 𝓡 w.2.0 (by_table.type κ) (tabled_laws.the_row_laws (record { mir = erased; lft = κ })) (by_table.ghosts κ) by_table.dict
-      (table_met.bound 𝓡.env w.2.1.0 w.2.1.1.0 w.2.1.1.1.0 κ M 𝓤 𝓛 𝓜 𝓡))
+    visit-met 𝓤 𝓛 𝓜 𝓡 w.2.0 (by_table.type κ) (tabled_laws.the_row_laws (record { mir = erased; lft = κ })) (by_table.ghosts κ) by_table.dict
+    (table_met.bound 𝓡.env w.2.1.0 w.2.1.1.0 w.2.1.1.1.0 κ M 𝓤 𝓛 𝓜 𝓡))
     (λ κ M 𝓤 𝓛 𝓜 𝓡 w.
-      sent-met 𝓤 𝓛 𝓜 𝓡 w.2.0 (by_table.type κ) (tabled_laws.the_row_laws (record { mir = erased; lft = κ })) (by_table.ghosts κ) by_table.dict
-      (table_met.bound 𝓡.env w.2.1.0 w.2.1.1.0 w.2.1.1.1.0 κ M 𝓤 𝓛 𝓜 𝓡))
+    sent-met 𝓤 𝓛 𝓜 𝓡 w.2.0 (by_table.type κ) (tabled_laws.the_row_laws (record { mir = erased; lft = κ })) (by_table.ghosts κ) by_table.dict
+    (table_met.bound 𝓡.env w.2.1.0 w.2.1.1.0 w.2.1.1.1.0 κ M 𝓤 𝓛 𝓜 𝓡))
 
 -- where a book's bytes and an index are lent, they are those of its moves
 pub in_moves : (κ : Lft) (it : Moved) → (by_moves.ghosts κ).device it ≡ moved it.book.now it.n it.m it.index.now
@@ -537,11 +537,11 @@ pub visiting_moves : VisitClaims by_moves visit_by_moves sent_by_moves
 visiting_moves =
     visit_claims by_moves visit_by_moves sent_by_moves
     (λ κ M 𝓤 𝓛 𝓜 𝓡 w.
-      visit-met 𝓤 𝓛 𝓜 𝓡 w.2.0 (by_moves.type κ) (moved_laws.the_row_laws (record { mir = erased; lft = κ })) (by_moves.ghosts κ) by_moves.dict
-      (moves_met.bound 𝓡.env w.2.1.0 w.2.1.1.0 w.2.1.1.1.0 κ M 𝓤 𝓛 𝓜 𝓡))
+    visit-met 𝓤 𝓛 𝓜 𝓡 w.2.0 (by_moves.type κ) (moved_laws.the_row_laws (record { mir = erased; lft = κ })) (by_moves.ghosts κ) by_moves.dict
+    (moves_met.bound 𝓡.env w.2.1.0 w.2.1.1.0 w.2.1.1.1.0 κ M 𝓤 𝓛 𝓜 𝓡))
     (λ κ M 𝓤 𝓛 𝓜 𝓡 w.
-      sent-met 𝓤 𝓛 𝓜 𝓡 w.2.0 (by_moves.type κ) (moved_laws.the_row_laws (record { mir = erased; lft = κ })) (by_moves.ghosts κ) by_moves.dict
-      (moves_met.bound 𝓡.env w.2.1.0 w.2.1.1.0 w.2.1.1.1.0 κ M 𝓤 𝓛 𝓜 𝓡))
+    sent-met 𝓤 𝓛 𝓜 𝓡 w.2.0 (by_moves.type κ) (moved_laws.the_row_laws (record { mir = erased; lft = κ })) (by_moves.ghosts κ) by_moves.dict
+    (moves_met.bound 𝓡.env w.2.1.0 w.2.1.1.0 w.2.1.1.1.0 κ M 𝓤 𝓛 𝓜 𝓡))
 
 -- the text that the program prints
 pub printing : ReportClaims report_routine

@@ -6,9 +6,9 @@ use contract.Lifetimes.{Lfts, lft_at}
 use denote.RattleType.{RattleType}
 use denote.Triple.Clauses.{Ended}
 use mir.Syntax.{Dict, erased}
-use Rattle.std.specs.Prelude.{◌≡◌, Bool, true, Option, ◌↔◌, List, [], ◌∷◌, ◌++◌, ℕ, ◌*◌, ◌/◌, ◌%◌, ◌<◌, ◌≤◌, length, get_or, take}
+use Rattle.std.specs.Prelude.{◌≡◌, Option, ◌↔◌, List, [], ◌∷◌, ◌++◌, ℕ, ◌*◌, ◌/◌, ◌%◌, ◌<◌, ◌≤◌, length, get_or, take}
 use Rattle.base.specs.Sizes.{LongEnough}
-use Rattle.reversal.specs.Device.{Device, entry}
+use Rattle.reversal.specs.Device.{Device}
 use Rattle.reversal.specs.Reversal.{Item}
 use Rattle.reversal.specs.Runs.{Run, last}
 use Rattle.reversal.specs.Chains.{Chain, plan_of, Undoes}

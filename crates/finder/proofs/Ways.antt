@@ -3,8 +3,7 @@ use mathlib.Core.Path.{◌≡◌, sym, ap, ◌∙◌, subst}
 use mathlib.Core.Bool.{true, false, false≢true}
 use mathlib.Core.Logic.{inl, inr}
 use mathlib.Core.List.{List}
-use Prim.Native.Nat.{ℕ, ◌≤◌}
-use native.Mathlib.Omega.{arith}
+use Prim.Native.Nat.{ℕ}
 use Rattle.octets.specs.Le.{bytes_le}
 use Rattle.reversal.specs.Device.{Device, tabled}
 use Rattle.book.specs.Book.{Book, device_of, AllowedBook}
@@ -37,12 +36,6 @@ module _ {book table : List ℕ} {x : TableChecking} {table' : List ℕ} (c : Ch
 
     the_device : device ≡ device_of book_of_lem
     the_device = ap (λ (y : TableChecking). tabled y.n y.m table') of_book.2 ∙ table-device of_book.1
-
-    pub within : (x.n ≤ 64) × (x.m ≤ 32)
-    within =
-        let n : x.n ≡ book_of_lem.n = ap (λ (y : TableChecking). y.n) of_book.2 in
-        let m : x.m ≡ book_of_lem.m = ap (λ (y : TableChecking). y.m) of_book.2 in
-        (omega (arith, allowed.device.n_high), omega (arith, allowed.device.m_high))
 
   module _ (q : Sought) where
     -- the book is refused

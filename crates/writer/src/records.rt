@@ -1,4 +1,4 @@
-// The records of a book, stored one after the other. Each function that stores records of more than one length answers the place after them.
+// The records of a book, stored one after the other.
 ghost use Rattle.std.specs.Prelude.{◌≡◌, ◌+◌, ◌*◌, ◌<◌, ◌≤◌, length};
 ghost use Rattle.std.proofs.lemmas.List.Edits.{sets};
 ghost use Rattle.book.specs.Book.{bytes_of, all_one, two_bytes, frame, framed, device_rec, weights_recs, move_rec, item_rec};

@@ -80,6 +80,10 @@ pub length_head : (k r : ℕ) → length (item_head k r) ≡ 6
 unfolding item_head bytes_le
 length_head k r = refl
 
+-- stored over, both have one length
+pub same_room : (d e : List ℕ) (p q : ℕ) (xs ys : List ℕ) → sets d p xs ≡ sets e q ys → length d ≡ length e
+same_room d e p q xs ys h = sym (length-sets d p xs) ∙ ap length h ∙ length-sets e q ys
+
 -- ---- the book
 pub cells_below : (n m : ℕ) → n ≤ 64 → n * m ≤ 64 * m
 cells_below n m h = mul-le-mul {n₁ = n} {m₁ = m} {n₂ = 64} {m₂ = m} h (omega arith)

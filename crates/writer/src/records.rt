@@ -1,4 +1,4 @@
-// The records of a book, stored one after the other. Each function that stores records of more than one length answers the place after them.
+// The records of a book, stored one after the other.
 ghost use Rattle.std.specs.Prelude.{◌≡◌, ◌+◌, ◌*◌, ◌<◌, ◌≤◌, length};
 ghost use Rattle.std.proofs.lemmas.List.Edits.{sets};
 ghost use Rattle.book.specs.Book.{bytes_of, all_one, two_bytes, frame, framed, device_rec, weights_recs, move_rec, item_rec};
@@ -7,6 +7,7 @@ ghost use Rattle.book.specs.Lent.{lent};
 ghost use Rattle.book.specs.Slots.{item_at};
 ghost use Rattle.book.specs.Buffers.{book_from};
 ghost use Rattle.writer.specs.Records.{move, entry_row, moves_bytes, item_head, items_bytes, CountsFine};
+ghost use Rattle.writer.specs.Adds.{Adds};
 
 use book::Kind;
 
@@ -66,49 +67,6 @@ fn put_move(state: u64, command: u64, mask: u64, d: &mut [u8])
     octets::put_le(8, mask, d, 6);
 }
 
-// The record of an entry, where its mask is not 0. `put_move` is lent the 14 bytes of the record alone, so that its tests for room are constant.
-fn put_entry(mask: u64, state: u64, command: u64, d: &mut [u8], at: usize) -> usize
-    requires { (at + 14 ≤ length d.old) × (state < 256) × (command < 256) }
-    ensures d_after { d.new ≡ sets d.old at (entry_row mask state command) }
-    ensures value { result ≡ at + length (entry_row mask state command) }
-    ensures upper_bound { result ≤ at + 14 }
-{
-    if mask == 0 {
-        return at;
-    }
-    put_move(state, command, mask, &mut d[at..at + 14]);
-    at + 14
-}
-
-// The records of a state's entries.
-fn put_row(state: usize, m: usize, t: &[u64], d: &mut [u8], at: usize) -> usize
-    requires { (state < 64) × (m ≤ 32) × (state * m + m ≤ length t.now) × (at + 14 * m ≤ length d.old) }
-    ensures d_after { d.new ≡ sets d.old at (moves_bytes m t.now (state * m) m) }
-    ensures value { result ≡ at + length (moves_bytes m t.now (state * m) m) }
-    ensures upper_bound { result ≤ at + 14 * m }
-{
-    let first = state * m;
-    let mut p = at;
-    for command in 0..m {
-        p = put_entry(t[first + command], state as u64, command as u64, d, p);
-    }
-    p
-}
-
-// The records of all entries, state by state.
-fn put_moves(n: usize, m: usize, t: &[u64], d: &mut [u8], at: usize) -> usize
-    requires { (n ≤ 64) × (m ≤ 32) × (n * m ≤ length t.now) × (at + 14 * (n * m) ≤ length d.old) }
-    ensures d_after { d.new ≡ sets d.old at (moves_bytes (n * m) t.now 0 m) }
-    ensures value { result ≡ at + length (moves_bytes (n * m) t.now 0 m) }
-    ensures upper_bound { result ≤ at + 14 * (n * m) }
-{
-    let mut p = at;
-    for state in 0..n {
-        p = put_row(state, m, t, d, p);
-    }
-    p
-}
-
 // The head of an item's record and its two counts, from 0 on.
 fn put_head(k: u64, r: u64, d: &mut [u8])
     requires { (k ≤ 8) × (r ≤ 8) }
@@ -120,38 +78,81 @@ fn put_head(k: u64, r: u64, d: &mut [u8])
     octets::put_le(1, r, d, 5);
 }
 
-// The record of the item in slot a. Its counts are tested again: in slots that overlap the output, which the header rules out, they may have changed, and
-// would lead past its end.
-fn put_item(s: &[u8], a: u8, d: &mut [u8], at: usize) -> usize
-    requires { (34 * a + 34 ≤ length s.now) × (length (item_at s.now a).forward ≤ 8) × (length (item_at s.now a).reverse ≤ 8)
-        × (at + 38 ≤ length d.old) }
-    ensures d_after { d.new ≡ sets d.old at (frame (item_rec (item_at s.now a))) }
-    ensures value { result ≡ at + length (frame (item_rec (item_at s.now a))) }
-    ensures upper_bound { result ≤ at + 38 }
-{
-    let k = slots::k(s, a);
-    let r = slots::r(s, a);
-    if 8 < k || 8 < r {
-        return at;
-    }
-    let body = at + 6;
-    put_head(k, r, &mut d[at..body]);
-    let end = body + 16 + k as usize + r as usize;
-    slots::put_parts(s, a, k as usize, r as usize, &mut d[body..end]);
-    end
+// A lent output, and the place after the records that are stored there so far: the next record begins at that place.
+#[derive(Drop)]
+struct Output<'a> {
+    out: &'a mut [u8],
+    end: usize,
 }
 
-// The records of the items in the first c slots.
-fn put_items(c: usize, s: &[u8], d: &mut [u8], at: usize) -> usize
-    requires { (c ≤ 64) × (2176 ≤ length s.now) × (at + 38 * c ≤ length d.old) × CountsFine c s.now }
-    ensures d_after { d.new ≡ sets d.old at (items_bytes c s.now 0) }
-    ensures value { result ≡ at + length (items_bytes c s.now 0) }
-{
-    let mut p = at;
-    for i in 0..c {
-        p = put_item(s, i as u8, d, p);
+impl Output<'_> {
+    // The record of an entry, where its mask is not 0. `put_move` is lent the 14 bytes of the record alone, so that its tests for room are constant.
+    fn put_entry(&mut self, mask: u64, state: u64, command: u64)
+        requires { (self.old.end + 14 ≤ length self.old.out.now) × (state < 256) × (command < 256) }
+        ensures adds { Adds self.old (entry_row mask state command) self.new }
+        ensures upper_bound { self.new.end ≤ self.old.end + 14 }
+    {
+        if mask == 0 {
+            return;
+        }
+        let at = self.end;
+        put_move(state, command, mask, &mut self.out[at..at + 14]);
+        self.end = at + 14;
     }
-    p
+
+    // The records of a state's entries.
+    fn put_row(&mut self, state: usize, m: usize, t: &[u64])
+        requires { (state < 64) × (m ≤ 32) × (state * m + m ≤ length t.now) × (self.old.end + 14 * m ≤ length self.old.out.now) }
+        ensures adds { Adds self.old (moves_bytes m t.now (state * m) m) self.new }
+        ensures upper_bound { self.new.end ≤ self.old.end + 14 * m }
+    {
+        let first = state * m;
+        for command in 0..m {
+            self.put_entry(t[first + command], state as u64, command as u64);
+        }
+    }
+
+    // The records of all entries, state by state.
+    fn put_moves(&mut self, n: usize, m: usize, t: &[u64])
+        requires { (n ≤ 64) × (m ≤ 32) × (n * m ≤ length t.now) × (self.old.end + 14 * (n * m) ≤ length self.old.out.now) }
+        ensures adds { Adds self.old (moves_bytes (n * m) t.now 0 m) self.new }
+        ensures upper_bound { self.new.end ≤ self.old.end + 14 * (n * m) }
+    {
+        for state in 0..n {
+            self.put_row(state, m, t);
+        }
+    }
+
+    // The record of the item in slot a. Its counts are tested again: in slots that overlap the output, which the header rules out, they may have changed,
+    // and would lead past its end.
+    fn put_item(&mut self, s: &[u8], a: u8)
+        requires { (34 * a + 34 ≤ length s.now) × (length (item_at s.now a).forward ≤ 8) × (length (item_at s.now a).reverse ≤ 8)
+            × (self.old.end + 38 ≤ length self.old.out.now) }
+        ensures adds { Adds self.old (frame (item_rec (item_at s.now a))) self.new }
+        ensures upper_bound { self.new.end ≤ self.old.end + 38 }
+    {
+        let k = slots::k(s, a);
+        let r = slots::r(s, a);
+        if 8 < k || 8 < r {
+            return;
+        }
+        let at = self.end;
+        let body = at + 6;
+        put_head(k, r, &mut self.out[at..body]);
+        let end = body + 16 + k as usize + r as usize;
+        slots::put_parts(s, a, k as usize, r as usize, &mut self.out[body..end]);
+        self.end = end;
+    }
+
+    // The records of the items in the first c slots.
+    fn put_items(&mut self, c: usize, s: &[u8])
+        requires { (c ≤ 64) × (2176 ≤ length s.now) × (self.old.end + 38 * c ≤ length self.old.out.now) × CountsFine c s.now }
+        ensures adds { Adds self.old (items_bytes c s.now 0) self.new }
+    {
+        for i in 0..c {
+            self.put_item(s, i as u8);
+        }
+    }
 }
 
 // The whole book, from 0 on, once all that it takes is judged; its length.
@@ -171,7 +172,9 @@ pub(crate) fn put_book(
     ensures value { result ≡ length (bytes_of (book_from n m c (lent table.now slots.now weights.now))) }
 {
     put_device(n, m, out);
-    let first = put_weights(m as usize, weights, out);
-    let p = put_moves(n as usize, m as usize, table, out, first);
-    put_items(c, slots, out, p)
+    let end = put_weights(m as usize, weights, out);
+    let mut book = Output { out, end };
+    book.put_moves(n as usize, m as usize, table);
+    book.put_items(c, slots);
+    book.end
 }

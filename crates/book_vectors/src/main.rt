@@ -66,7 +66,7 @@ fn run_case(rt: &impl Print, head: &[u8], book: &[u8]) {
 
 fn main(rt: HostRuntime) {
     let cases = Cases {
-        path: "books.bin",
+        path: b"books.bin",
         count: 600,
         head: 3,
     };

@@ -30,7 +30,7 @@ fn run_case(rt: &impl Print, book: &[u8], run: &[u8]) {
 
 fn main(rt: HostRuntime) {
     let cases = Cases {
-        path: "cases.bin",
+        path: b"cases.bin",
         count: 900,
         head: 2,
     };

@@ -514,11 +514,11 @@ portable_rule_lem = rule_claims portable_outcomes_routine portable-mask (λ M. p
 pub trailing_zeros : (w : ℕ) → (w ≡ 0 → ⊥) → w < 2 ^ 64 → LowestState w (count_trailing_zeros 64 w)
 trailing_zeros = trailing_zeros_lowest
 
--- the routines that apply a command to a set visit those present alone, lowest first
 -- where the device's table is lent, a state's outcomes are the table's entry
 pub in_table : (κ : Lft) (it : Tabled) → (by_table.ghosts κ).device it ≡ tabled it.n it.m it.table.now
 in_table κ it = refl
 
+-- the routines that apply a command to a set visit those present alone, lowest first
 pub visiting : VisitClaims by_table visit_by_table sent_by_table
 visiting =
     visit_claims by_table visit_by_table sent_by_table

@@ -36,7 +36,7 @@ fn run_case(rt: &impl Print, head: &[u8], book: &[u8], forward: &[u8]) {
 
 fn main(rt: HostRuntime) {
     let cases = Cases {
-        path: "finds.bin",
+        path: b"finds.bin",
         count: 900,
         head: 19,
     };

@@ -13,7 +13,7 @@ fn run_case(rt: &impl Print, head: &[u8], book: &[u8]) {
 
 fn main(rt: HostRuntime) {
     let cases = Cases {
-        path: "forecasts.bin",
+        path: b"forecasts.bin",
         count: 900,
         head: 10,
     };

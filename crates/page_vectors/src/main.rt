@@ -41,7 +41,7 @@ fn run_case(rt: &impl Print, head: &[u8], book: &[u8], run: &[u8]) {
 
 fn main(rt: HostRuntime) {
     let cases = Cases {
-        path: "pages.bin",
+        path: b"pages.bin",
         count: 700,
         head: 3,
     };

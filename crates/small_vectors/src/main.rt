@@ -29,7 +29,7 @@ fn run_case(rt: &impl Print, head: &[u8], book: &[u8], run: &[u8]) {
 
 fn main(rt: HostRuntime) {
     let cases = Cases {
-        path: "small.bin",
+        path: b"small.bin",
         count: 700,
         head: 3,
     };

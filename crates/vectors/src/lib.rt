@@ -6,7 +6,6 @@ ghost use Rattle.std.specs.Prelude.{◌≡◌, ◌≢◌, ℕ, ◌+◌, ◌-◌,
 ghost use Rattle.io.specs.Counts.{IsPrefixLen};
 ghost use Rattle.vectors.specs.declared.Lending.TheVariants.{Longer, Short};
 
-use std::fs::File;
 use std::io::{Eprint, Print, Read};
 use std::rt::Files;
 
@@ -44,7 +43,7 @@ fn next_two(file: &mut impl Read) -> u16 {
 // A file of so many cases, each of which begins with a head of so many bytes, at most 575.
 #[derive(Clone, Copy)]
 pub struct Cases<'a> {
-    pub path: &'a str,
+    pub path: &'a [u8],
     pub count: u64,
     pub head: usize,
 }
@@ -57,7 +56,7 @@ impl Cases<'_> {
         ensures { result ≤ self.entry.count }
     {
         let Cases { path, count, head } = self;
-        match File::open(rt, path) {
+        match files::open_read(rt, path) {
             Ok(mut file) => {
                 for _ in 0..count {
                     let mut bytes = [0; 575];
@@ -68,7 +67,8 @@ impl Cases<'_> {
                 count
             }
             Err(error) => {
-                let _ = eprintln!(rt; "{path}: {error}");
+                let name = str::from_utf8(path).unwrap_or("");
+                let _ = eprintln!(rt; "{name}: {error}");
                 0
             }
         }

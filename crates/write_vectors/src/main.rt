@@ -37,7 +37,7 @@ fn run_case(rt: &impl Print, case: &[u8; 575]) {
 
 fn main(rt: HostRuntime) {
     let cases = Cases {
-        path: "writes.bin",
+        path: b"writes.bin",
         count: 500,
         head: 575,
     };

@@ -16,10 +16,7 @@ use Rattle.reversal.specs.Runs.{AllowedRun, last}
 use Rattle.reversal.specs.Chains.{absent, none}
 use Rattle.reversal.specs.Answers.{Allowed}
 use Rattle.book.specs.Book.{Book, device_of, items_for}
-use Rattle.book.specs.Faults.{code_of}
 use Rattle.book.specs.Lent.{Lent}
-use Rattle.book.specs.declared.fault.Fault.{Fault}
-use Rattle.book.specs.declared.fault.Fault.TheVariants.{ShortBuffer, CutOff, WrongKind, WrongLength, OutOfRange, NotRising, TooManyItems, NoReversePlan, WrongRun, NoHistory, NoChain, NotEffective, OnesOnly, NoItem, NoReverse}
 use Rattle.book.proofs.Device.{device_proper}
 use Rattle.items.specs.Items.{Placed}
 use Rattle.items.proofs.Laws.{placed_items}
@@ -42,24 +39,6 @@ use Rattle.assembly.specs.Assembles.{refusal, result_of}
 use Rattle.assembly.specs.Contract.{answer_of, planned_by, plan_by, room_of, PlannedAs, AssembleAs, Lending}
 use Rattle.assembly.proofs.AnswerReached as reached
 use Rattle.assembly.proofs.AnswerReached.{Stored, counted, ChainFound}
-
--- ---- no fault has code 0
-pub some_code : (fault : Fault) → code_of fault ≡ 0 → ⊥
-some_code ShortBuffer e = absurd (omega (arith, e))
-some_code CutOff e = absurd (omega (arith, e))
-some_code WrongKind e = absurd (omega (arith, e))
-some_code WrongLength e = absurd (omega (arith, e))
-some_code OutOfRange e = absurd (omega (arith, e))
-some_code NotRising e = absurd (omega (arith, e))
-some_code TooManyItems e = absurd (omega (arith, e))
-some_code NoReversePlan e = absurd (omega (arith, e))
-some_code WrongRun e = absurd (omega (arith, e))
-some_code NoHistory e = absurd (omega (arith, e))
-some_code NoChain e = absurd (omega (arith, e))
-some_code NotEffective e = absurd (omega (arith, e))
-some_code OnesOnly e = absurd (omega (arith, e))
-some_code NoItem e = absurd (omega (arith, e))
-some_code NoReverse e = absurd (omega (arith, e))
 
 -- ---- a short buffer
 pub short-refused : {ask : Asked} {l : AllLent ℕ} {r : Assembly} → Bytes ask.book → (LongEnough (all_sizes in_bytes l) → ⊥) → r ≡ refusal 1 0

@@ -2,6 +2,7 @@
 use mathlib.Core.Path.{◌≡◌, refl, sym, ap, ap₂, ◌∙◌}
 use mathlib.Core.List.{List}
 use Prim.Native.Nat.{ℕ, ◌≤◌, ◌<◌}
+use native.Mathlib.Decide.{dec_lt}
 use native.Mathlib.Omega.{arith}
 use lib.ListN.{length}
 use Rattle.std.specs.Prelude.{Result, Ok, Err, IsErrAnd}
@@ -28,11 +29,12 @@ use Rattle.reader.specs.Reads.{refusal, done}
 use Rattle.reader.specs.Contract.{ReadInto}
 use Rattle.reader.proofs.Filling.{Found, found, refused}
 use Rattle.reader.proofs.Ways.{when_faulty, when_fine}
+use Rattle.checker.specs.declared.Checking.{Checking}
 use Rattle.checker.specs.declared.Counts.{Counts}
 use Rattle.checker.specs.declared.Rejected.{Rejected}
 use Rattle.checker.specs.Checks.{with_units}
 use Rattle.checker.specs.TableChecks.{answer_of, short}
-use Rattle.checker.specs.Contract.{unread, checking_by, units_of, judged_by, BookJudged, check_by, CheckingOf, CheckAs, CheckSmallAs, CheckTableAs}
+use Rattle.checker.specs.Contract.{unread, checking_by, units_of, judged_by, BookJudged, check_by, CheckingOf, CheckAs, CheckInTableAs, CheckSmallAs, CheckTableAs}
 use Rattle.checker.proofs.Judging.{error_is}
 use Rattle.checker.proofs.TableChecks.{table-says}
 
@@ -130,18 +132,41 @@ module _ {s scratch : List ℕ} (bytes : Bytes s) where
 
 -- ---- with a table as the only buffer
 module _ {s table : List ℕ} (bytes : Bytes s) where
-  pub table_short : length table < 2048 → {r : Rejected} → r ≡ unread (fault_at ShortBuffer 0) → CheckTableAs s table (answer_of (checking_by (Err r))) table
-  table_short l e = record { bytes = bytes; says = short l (ap (λ (x : Rejected). answer_of (checking_by (Err x))) e) refl }
+  pub table_short : length table < 2048 → {r : Rejected} → r ≡ unread (fault_at ShortBuffer 0) → CheckInTableAs s table (checking_by (Err r)) table
+  table_short l e =
+      record {
+        bytes = bytes;
+        short = λ _. (ap (λ (x : Rejected). checking_by (Err x)) e, refl);
+        enough = λ h. absurd (omega (arith, l, h));
+      }
 
   pub table_refused : {f : FaultAt} → 2048 ≤ length table → Err f ≡ scan (cut s) 0 at_start → (r : Result Counts Rejected) → IsErrAnd r (λ e. e ≡ unread f)
-      → CheckTableAs s table (answer_of (checking_by r)) table
+      → CheckInTableAs s table (checking_by r) table
   table_refused {f} l e r h =
-      rw (error_is r h) (table-says (refused_of bytes e) l (sym (when_faulty s (λ code place. table) (λ b. table_of b table) (refused s f (sym e)))))
+      rw (error_is r h) (
+      record {
+        bytes = bytes;
+        short = λ n. absurd (omega (arith, l, n));
+        enough = λ _. (refused_of bytes e, sym (when_faulty s (λ code place. table) (λ b. table_of b table) (refused s f (sym e))));
+      }
+      )
 
   pub table_judged : {st : State} (e : Ok st ≡ scan (cut s) 0 at_start) {table' : List ℕ} → 2048 ≤ length table
       → ((b : Book) → AllowedBook b → bytes_of b ≡ s → table' ≡ table_of b table)
-      → (r : Result Counts Rejected) → BookJudged s (tabled st.n st.m table') st.items r → CheckTableAs s table (answer_of (checking_by r)) table'
+      → (r : Result Counts Rejected) → BookJudged s (tabled st.n st.m table') st.items r → CheckInTableAs s table (checking_by r) table'
   table_judged e h t r j =
       let k = g bytes e in
       let q = t k.book k.allowed k.bytes in
-      table-says (judged_of bytes e (device-read k table h q) r j) h (q ∙ sym (when_fine s _ _ k.parsed))
+      record {
+        bytes = bytes;
+        short = λ n. absurd (omega (arith, h, n));
+        enough = λ _. (judged_of bytes e (device-read k table h q) r j, q ∙ sym (when_fine s _ _ k.parsed));
+      }
+
+-- as C is answered
+pub table_as : {s table : List ℕ} {r : Checking} {table' : List ℕ} → CheckInTableAs s table r table' → CheckTableAs s table (answer_of r) table'
+table_as {s} {table} {r} {table'} c = go (dec_lt (length table) 2048)
+  where
+    go : Dec (length table < 2048) → CheckTableAs s table (answer_of r) table'
+    go (yes l) = let (e, t) = c.short l in record { bytes = c.bytes; says = short l (ap answer_of e) t }
+    go (no n) = let h : 2048 ≤ length table = omega arith in let (k, t) = c.enough h in table-says k h t

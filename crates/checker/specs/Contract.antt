@@ -16,6 +16,7 @@ use Rattle.book.specs.Book.{Book, device_of, AllowedBook, bytes_of, items_of}
 use Rattle.book.specs.Faults.{code_of}
 use Rattle.book.specs.Lent.{Lent, sizes}
 use Rattle.reader.specs.Reads.{refusal, done}
+use Rattle.book.specs.Buffers.{table_of}
 use Rattle.reader.specs.Contract.{book_by, filled_by}
 use Rattle.book.specs.declared.fault.FaultAt.{FaultAt}
 use Rattle.checker.specs.declared.Counts.{Counts}
@@ -114,6 +115,12 @@ pub record CheckSmallAs (s scratch : List ℕ) (r : Checking) (scratch' : List �
   pub checking : 64 ≤ length scratch → CheckingOf s r
   pub device : 64 ≤ length scratch → r.code ≡ 0 → (b : Book) → AllowedBook b → bytes_of b ≡ s → moved s b.n b.m scratch' ≡ device_of b
   pub rest : drop 64 scratch' ≡ drop 64 scratch
+
+-- the contract of `check_in_table`, whose answer has the units too
+pub record CheckInTableAs (s table : List ℕ) (r : Checking) (table' : List ℕ) : Type 0 where
+  pub bytes : Each (λ x. x < 256) s
+  pub short : length table < 2048 → (r ≡ with_units (refusal 1 0) 0) × (table' ≡ table)
+  pub enough : 2048 ≤ length table → CheckingOf s r × (table' ≡ book_by s (λ code place. table) (λ b. table_of b table))
 
 -- the contract of `check_table`
 pub record CheckTableAs (s table : List ℕ) (r : TableChecking) (table' : List ℕ) : Type 0 where

@@ -7,7 +7,7 @@ ghost use Rattle.book.specs.Book.{WellFormed};
 ghost use Rattle.book.specs.Lent.{lent};
 ghost use Rattle.checker.specs.Reasons.{fault_of};
 ghost use Rattle.checker.specs.TableChecks.{answer_of};
-ghost use Rattle.checker.specs.Contract.{unread, checking_by, back_of, returns_in, wrong_for, JudgedAs, BookJudged, CheckAs, CheckSmallAs, CheckTableAs};
+ghost use Rattle.checker.specs.Contract.{unread, checking_by, back_of, returns_in, wrong_for, JudgedAs, BookJudged, CheckAs, CheckSmallAs, CheckInTableAs, CheckTableAs};
 
 use book::{Fault, FaultAt};
 use states::{Moved, Outcomes, StateSet, Tabled};
@@ -258,7 +258,7 @@ pub fn check_in_scratch(book: &[u8], scratch: &mut [u64]) -> Result<Counts, Reje
 
 // The same with a table of at least 2,048 entries as the only buffer.
 pub fn check_in_table(book: &[u8], table: &mut [u64]) -> Result<Counts, Rejected>
-    ensures { CheckTableAs book.now table.old (answer_of (checking_by result)) table.new }
+    ensures { CheckInTableAs book.now table.old (checking_by result) table.new }
 {
     if table.len() < book::TABLE_LEN {
         return Err(Fault::ShortBuffer.at(0).into());

@@ -3,7 +3,8 @@ use mathlib.Core.Path.{◌≡◌, sym, ap, ◌∙◌, subst}
 use mathlib.Core.Bool.{true, false, false≢true}
 use mathlib.Core.Logic.{inl, inr}
 use mathlib.Core.List.{List}
-use Prim.Native.Nat.{ℕ}
+use Prim.Native.Nat.{ℕ, ◌≤◌}
+use native.Mathlib.Omega.{arith}
 use Rattle.octets.specs.Le.{bytes_le}
 use Rattle.reversal.specs.Device.{Device, tabled}
 use Rattle.book.specs.Book.{Book, device_of, AllowedBook}
@@ -29,6 +30,12 @@ module _ {book table : List ℕ} {x : TableChecking} {table' : List ℕ} (c : Ch
 
     allowed : AllowedBook book_of_lem
     allowed = of_book.1.accepted.allowed
+
+    -- its limits
+    pub within : (x.n ≤ 64) × (x.m ≤ 32)
+    within =
+        let d = allowed.device in
+        (omega (arith, ap (λ (y : TableChecking). y.n) of_book.2, d.n_high), omega (arith, ap (λ (y : TableChecking). y.m) of_book.2, d.m_high))
 
     -- the device that the table holds
     abbrev device : Device

@@ -1,7 +1,8 @@
 use Rattle.std.proofs.Common.{refl, ◌<◌}
 use native.Mathlib.Omega.{arith}
 use Rattle.base.proofs.Lists.{each_of}
-use Rattle.assembly.proofs.WaysOfAssemble.{some_code, lent-refused}
+use Rattle.checker.proofs.Faults.{some_code}
+use Rattle.assembly.proofs.WaysOfAssemble.{lent-refused}
 use Rattle.assembly.proofs.Lends.{table_lends}
 use Rattle.assembly.proofs.assemble.Goals as goal
 

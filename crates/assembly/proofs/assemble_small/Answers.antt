@@ -1,7 +1,8 @@
 use Rattle.std.proofs.Common.{refl, ◌<◌}
 use native.Mathlib.Omega.{arith}
 use Rattle.base.proofs.Lists.{each_of}
-use Rattle.assembly.proofs.WaysOfAssemble.{some_code, not-accepted}
+use Rattle.checker.proofs.Faults.{some_code}
+use Rattle.assembly.proofs.WaysOfAssemble.{not-accepted}
 use Rattle.assembly.proofs.Lends.{small_lends}
 use Rattle.assembly.proofs.Small.{small-long}
 use Rattle.assembly.proofs.assemble_small.Goals as goal

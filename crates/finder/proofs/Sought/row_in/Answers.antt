@@ -1,38 +1,20 @@
 -- `row_in` meets its contract. Assumes nothing.
 use mathlib.Core.Path.{◌≡◌, refl, sym, ap, ◌∙◌}
 use mathlib.Core.Bool.{false≢true}
-use native.Mathlib.Omega.{arith}
 use borrow.Author.Tests.{eqb-true}
 use Rattle.std.specs.Prelude.{Option, Some, None}
 use Rattle.std.specs.Option.{ok_or}
 use Rattle.book.specs.Parse.{fault_at}
 use Rattle.book.specs.Faults.{code_of}
-use Rattle.book.specs.declared.fault.Fault.{Fault}
-use Rattle.book.specs.declared.fault.Fault.TheVariants.{ShortBuffer, CutOff, WrongKind, WrongLength, OutOfRange, NotRising, TooManyItems, NoReversePlan, WrongRun, NoHistory, NoChain, NotEffective, OnesOnly, NoItem, NoReverse}
+use Rattle.book.specs.declared.fault.Fault.TheVariants.{NoReverse}
 use Rattle.book.specs.declared.fault.FaultAt.{FaultAt}
 use Rattle.finder.specs.declared.Row.{Row}
 use Rattle.finder.specs.Finds.{refusal}
 use Rattle.finder.specs.Searching.{found_with, found_by}
-use Rattle.finder.proofs.Ways.{as_refused, as_barred, as_unused, as_sought}
+use Rattle.checker.proofs.Faults.{some_code}
+use Rattle.checker.proofs.Ways.{table_as}
+use Rattle.finder.proofs.Ways.{within, as_refused, as_barred, as_unused, as_sought}
 use Rattle.finder.proofs.Sought.row_in.Goals as goal
-
--- no fault has the code 0
-some_code : (f : Fault) → code_of f ≡ 0 → ⊥
-some_code ShortBuffer e = omega (arith, e)
-some_code CutOff e = omega (arith, e)
-some_code WrongKind e = omega (arith, e)
-some_code WrongLength e = omega (arith, e)
-some_code OutOfRange e = omega (arith, e)
-some_code NotRising e = omega (arith, e)
-some_code TooManyItems e = omega (arith, e)
-some_code NoReversePlan e = omega (arith, e)
-some_code WrongRun e = omega (arith, e)
-some_code NoHistory e = omega (arith, e)
-some_code NoChain e = omega (arith, e)
-some_code NotEffective e = omega (arith, e)
-some_code OnesOnly e = omega (arith, e)
-some_code NoItem e = omega (arith, e)
-some_code NoReverse e = omega (arith, e)
 
 -- where there is no row
 found_or : (row : Option Row) → found_by (ok_or row (fault_at NoReverse 0)) ≡ found_with row
@@ -40,20 +22,23 @@ found_or None = refl
 found_or (Some row) = refl
 
 pub returns-in-Err : goal.returns-in-Err
-returns-in-Err c = as_refused c.in-Err.ensures _ (some_code _) _ refl
+returns-in-Err c = as_refused (table_as c.in-Err.ensures) _ (some_code _) _ refl
 
 pub returns-then-not-may_be_held : goal.returns-then-not-may_be_held
 returns-then-not-may_be_held c =
-    as_barred c.in-Ok.ensures _ refl (sym c.may_be_held.ensures ∙ c.if-not-may_be_held.true) _ (ap (λ (at : FaultAt). refusal (code_of at.fault) at.place) c.at.ensures)
+    as_barred (table_as c.in-Ok.ensures) _ refl (sym c.may_be_held.ensures ∙ c.if-not-may_be_held.true) _ (ap (λ (at : FaultAt). refusal (code_of at.fault) at.place) c.at.ensures)
+
+pub invariant_of-within : goal.invariant_of-within
+invariant_of-within c = let w = within (table_as c.in-Ok.ensures) refl in record { states = w.0; commands = w.1 }
 
 pub returns-then-is_empty : goal.returns-then-is_empty
 returns-then-is_empty c =
-    as_unused c.in-Ok.ensures _ refl (sym c.may_be_held.ensures ∙ c.if-not-may_be_held.false)
+    as_unused (table_as c.in-Ok.ensures) _ refl (sym c.may_be_held.ensures ∙ c.if-not-may_be_held.false)
     c.keep_ends-used.ensures (eqb-true _ 0 (sym c.is_empty.ensures ∙ c.if-is_empty.true)) _
     (ap (λ (at : FaultAt). refusal (code_of at.fault) at.place) c.at-then-is_empty.ensures)
 
 pub returns : goal.returns
 returns c =
-    as_sought c.in-Ok.ensures _ refl (sym c.may_be_held.ensures ∙ c.if-not-may_be_held.false)
+    as_sought (table_as c.in-Ok.ensures) _ refl (sym c.may_be_held.ensures ∙ c.if-not-may_be_held.false)
     c.keep_ends-used.ensures (λ z. false≢true (sym c.if-is_empty.false ∙ c.is_empty.ensures ∙ rw z)) _
     (ap found_by (c.ok_or.ensures.value ∙ ap (ok_or c.shortest_row.result) c.at-2.ensures) ∙ found_or c.shortest_row.result ∙ c.shortest_row.ensures)

@@ -45,8 +45,8 @@ pub fn refused(code: u64, place: u64) -> Assembly
     ensures { result ≡ refusal code place }
 {
     Assembly {
-        code: code,
-        place: place,
+        code,
+        place,
         commands: 0,
         legs: 0,
         sum: 0,

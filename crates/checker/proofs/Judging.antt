@@ -100,7 +100,7 @@ module _ (b : Book) where
       go false q = cc
 
 -- a `?` passes on the error
-pub error_is : {r : Rejected} (x : Result Counts Rejected) → IsErrAnd x (λ e. e ≡ r) → x ≡ Err r
+pub error_is : {A E : Type 0} {r : E} (x : Result A E) → IsErrAnd x (λ e. e ≡ r) → x ≡ Err r
 error_is (Ok b) h = absurd h
 error_is (Err e) h = ap Err h
 

@@ -273,7 +273,7 @@ pub fn check_in_table(book: &[u8], table: &mut [u64]) -> Result<Counts, Rejected
     judge_book(book, &device, end.items)
 }
 
-// Each of the three as C is answered: of a book that is not accepted, the code of its fault or of its first wrong item, and the place.
+// Each of the three with its answer in one struct: of a book that is not accepted, the code of its fault or of its first wrong item, and the place.
 pub fn check(book: &[u8], table: &mut [u64], slots: &mut [u8], weights: &mut [u16]) -> Checking
     ensures { CheckAs book.now (lent table.old slots.old weights.old) result
         (lent table.new slots.new weights.new) }

@@ -321,10 +321,7 @@ impl Sought<'_> {
     fn row_in(&self, book: &[u8], table: &mut [u64]) -> Result<Row, FaultAt>
         ensures { FindAs book.now self.now table.old (found_by result) table.new }
     {
-        let counts = match checker::check_in_table(book, table) {
-            Ok(counts) => counts,
-            Err(rejected) => return Err(rejected.at),
-        };
+        let counts = checker::check_in_table(book, table)?;
         if !self.may_be_held(counts.n, counts.m) {
             return Err(Fault::NoItem.at(0));
         }

@@ -87,7 +87,7 @@ pub fn lay_out(
 {
     if page.len() < PAGE_LEN {
         return Paged {
-            assembly: assembly::refused(Fault::ShortBuffer.into(), 0),
+            assembly: Fault::ShortBuffer.at(0).into(),
             length: 0,
         };
     }

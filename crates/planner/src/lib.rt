@@ -183,7 +183,7 @@ pub fn rollback_assemble_legs(
         (all_lent (lent table.new slots.new weights.new) plan.new legs.new) }
 {
     if legs.len() < 32 {
-        return assembly::refused(Fault::ShortBuffer.into(), 0);
+        return Fault::ShortBuffer.at(0).into();
     }
     let mut bytes = [0u8; assembly::LEGS_LEN];
     let result = assembly::assemble(book, run, table, slots, weights, plan, &mut bytes);

@@ -22,6 +22,9 @@ use Rattle.checker.specs.declared.Reason.{Reason}
 use Rattle.checker.specs.declared.Reason.TheVariants.{NoReversePlan, NotEffective}
 use Rattle.checker.specs.Reasons.{code_of}
 use Rattle.checker.specs.Checks.{Checks}
+use Rattle.std.specs.Prelude.{Result, Ok, Err}
+use Rattle.checker.specs.declared.Counts.{Counts}
+use Rattle.checker.specs.declared.Rejected.{Rejected}
 use Rattle.checker.specs.Contract.{checking_by, CheckAs, CheckInTableAs, CheckTableAs}
 use Rattle.checker.proofs.Exactly.{checks}
 use Rattle.checker.proofs.Unique.{zero↔ as check-zero↔, wrong_for, checked-wrong}
@@ -83,7 +86,7 @@ use Rattle.report.specs.Contract.{ReportAs}
 use Rattle.report.proofs.Exactly.{reports}
 use Rattle.report.specs.contracts.report as report
 use Rattle.claims.specs.Always.{After, Compiled, Always, AlwaysHeld}
-use Rattle.claims.specs.Claims.{Implementation, visit_ended, sent_ended, on_visit, on_sent, held, on_read, on_check, on_check_table, on_check_in_table, on_forecast, on_find, on_write, on_assemble, on_small, on_legs, on_lay_out, on_lookup, on_outcomes, on_report, WellWritten, ReadClaims, ChecksWrong, CheckClaims, AsChecking, CheckTableClaims, CheckInTableClaims, ForecastNumbers, NoneExceeds, ForecastClaims, FindsZero, FindsBarred, FindsNone, FoundCommands, FoundAsChecking, FindClaims, WriteClaims, AssembleClaims, SmallClaims, EqualForms, LegsClaims, AsAssembling, PaperClaims, LookupClaims, RuleClaims, ConstantTable, RidgeTable, PortableTable, RidgeEntries, PortableEntries, ReportClaims, VisitClaims}
+use Rattle.claims.specs.Claims.{answer_by, Implementation, visit_ended, sent_ended, on_visit, on_sent, held, on_read, on_check, on_check_table, on_check_in_table, on_forecast, on_find, on_write, on_assemble, on_small, on_legs, on_lay_out, on_lookup, on_outcomes, on_report, WellWritten, ReadClaims, ChecksWrong, CheckClaims, AsChecking, CheckTableClaims, CheckInTableClaims, ForecastNumbers, NoneExceeds, ForecastClaims, FindsZero, FindsBarred, FindsNone, FoundCommands, FoundAsChecking, FindClaims, WriteClaims, AssembleClaims, SmallClaims, EqualForms, LegsClaims, AsAssembling, PaperClaims, LookupClaims, RuleClaims, ConstantTable, RidgeTable, PortableTable, RidgeEntries, PortableEntries, ReportClaims, VisitClaims}
 use Rattle.claims.specs.Worked.{ChecksWorked, TableWorked, ForecastsWorked, FindsWorked, AssemblesWorked, SmallWorked, PaperWorked, ReadsWorked, WritesWorked}
 use Rattle.claims.proofs.Weaker.{weaker, weaker_held}
 use Rattle.claims.proofs.RoundTrips.{read_back, write_back}
@@ -128,8 +131,12 @@ on_in_table κs (book, (table, _)) r (_, (table', _)) = CheckInTableAs book.now 
 abbrev AlwaysInTable : Compiled → Type 2
 AlwaysInTable ρ = Always check-in-table.ended ρ on_in_table
 
+table_answer : {s table table' : List ℕ} (r : Result Counts Rejected) → CheckInTableAs s table (checking_by r) table' → CheckTableAs s table (answer_by r) table'
+table_answer (Ok b) c = table_as c
+table_answer (Err e) c = table_as c
+
 in_table : (ρ : Compiled) → AlwaysInTable ρ → Always check-in-table.ended ρ (on_check_in_table CheckTableAs)
-in_table ρ = weaker check-in-table.ended ρ on_in_table (on_check_in_table CheckTableAs) (λ κs a r e. table_as)
+in_table ρ = weaker check-in-table.ended ρ on_in_table (on_check_in_table CheckTableAs) (λ κs a r e. table_answer r)
 
 module _ (ρ : Compiled) where
   pub read_claims : Always read.ended ρ (on_read ReadAs) → ReadClaims ρ

@@ -7,7 +7,7 @@ use contract.Lifetimes.{Lfts, lft_at}
 use denote.RattleType.{RattleType}
 use denote.Triple.Clauses.{Ended}
 use mir.Syntax.{Dict, erased}
-use Rattle.std.specs.Prelude.{◌≡◌, Option, ◌↔◌, List, [], ◌∷◌, ◌++◌, ℕ, ◌*◌, ◌/◌, ◌%◌, ◌<◌, ◌≤◌, length, get_or, take}
+use Rattle.std.specs.Prelude.{◌≡◌, Option, Result, Ok, Err, ◌↔◌, List, [], ◌∷◌, ◌++◌, ℕ, ◌*◌, ◌/◌, ◌%◌, ◌<◌, ◌≤◌, length, get_or, take}
 use Rattle.base.specs.Sizes.{LongEnough}
 use Rattle.reversal.specs.Device.{Device}
 use Rattle.reversal.specs.Reversal.{Item}
@@ -37,7 +37,9 @@ use Rattle.checker.specs.TableChecks.{answer_of, TableChecks}
 use Rattle.checker.specs.contracts.check as check
 use Rattle.checker.specs.contracts.check_table as check-table
 use Rattle.checker.specs.contracts.check_in_table as check-in-table
-use Rattle.checker.specs.Contract.{checking_by}
+use Rattle.checker.specs.declared.Counts.{Counts}
+use Rattle.checker.specs.declared.Rejected.{Rejected}
+use Rattle.book.specs.Faults.{code_of}
 use Rattle.forecast.specs.declared.Forecasted.{Forecasted}
 use Rattle.forecast.specs.Forecasts.{Forecasts}
 use Rattle.forecast.specs.contracts.forecast as forecast
@@ -99,9 +101,13 @@ CheckTable = List ℕ → List ℕ → TableChecking → List ℕ → Type 0
 abbrev pub on_check_table : CheckTable → After check-table.ended
 on_check_table P κs (book, (table, _)) r (_, (table', _)) = P book.now table.now r table'.now
 
--- the same with a `Result`: the answer that stands for it
+-- the same with a `Result`, and the answer that it stands for
+abbrev pub answer_by : Result Counts Rejected → TableChecking
+answer_by (Ok b) = record { code = 0; place = 0; n = b.n; m = b.m }
+answer_by (Err r) = record { code = code_of r.at.fault; place = r.at.place; n = 0; m = 0 }
+
 abbrev pub on_check_in_table : CheckTable → After check-in-table.ended
-on_check_in_table P κs (book, (table, _)) r (_, (table', _)) = P book.now table.now (answer_of (checking_by r)) table'.now
+on_check_in_table P κs (book, (table, _)) r (_, (table', _)) = P book.now table.now (answer_by r) table'.now
 
 -- no buffer is lent
 abbrev pub Forecast : Type 1

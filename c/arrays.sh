@@ -13,12 +13,14 @@ octets chunk_at                N is 2 or 8, the bytes of a number
 octets bytes_at                the same'
 planner=crates/planner/src
 
-# The numbers whose bytes these two read: no other function calls them.
+# The numbers whose bytes these two read: no other function names them, and where one gives N in angle brackets it is 2 or 8.
 callers=$(awk '
+    { sub(/\/\/.*/, "") }
     match($0, /fn [a-z0-9_]+/) { item = substr($0, RSTART + 3, RLENGTH - 3) }
-    /(chunk|bytes)_at\(/ && !/fn (chunk|bytes)_at/ { print item }
-' crates/octets/src/lib.rt | sort -u | tr '\n' ' ')
-[ "$callers" = 'bytes_at u16_at u64_at whole_at ' ] || { echo "c/arrays.sh: chunk_at and bytes_at are called by $callers"; exit 1; }
+    /fn (chunk|bytes)_at/ { next }
+    /(chunk|bytes)_at/ { print item; gsub(/_at::<[28]>/, ""); if (/_at::/) print item, "with another N" }
+' crates/octets/src/lib.rt | sort -u | paste -s -d , -)
+[ "$callers" = 'bytes_at,u16_at,u64_at,whole_at' ] || { echo "c/arrays.sh: chunk_at and bytes_at are named by $callers"; exit 1; }
 
 # The crates that a function of planner calls, one to a line.
 called_by() {

@@ -4,8 +4,8 @@
 # On the page each exported call has a claim about its own routine, the one of planner by that name, and no claim
 # that is called exported_.. is about another routine. The archive is made of planner_c, on which no crate can stand:
 # each function there has the parameters, the result and the clauses of planner's, its words are brought in from where
-# planner has them, and it only passes its arguments on to planner's. Status 1 if one of these is not so. Then lists
-# what the archive needs from elsewhere.
+# planner has them, and it only passes its arguments on to planner's. What the archive needs from elsewhere is memcpy and
+# memset. Status 1 if one of these is not so.
 set -eu
 archive=${1:-target/staticlib/libplanner.a}
 page=${2:-$(dirname "$0")/../crates/claims/proofs/Page.antt}
@@ -171,5 +171,10 @@ awk -v exported="$exported" '
     }
 ' "$crates/planner/src/lib.rt" "$crates/planner_c/src/lib.rt"
 printf 'each passes on to the function of planner by its name, with the same clauses\n'
-printf 'needs:\n'
-nm -P -g --undefined-only "$archive" | awk 'NF > 1 { print $1 }' | LC_ALL=C sort -u
+needed=$(nm -P -g --undefined-only "$archive" | awk 'NF > 1 { print $1 }' | LC_ALL=C sort -u)
+if [ "$needed" != 'memcpy
+memset' ]; then
+    printf 'needs:\n%s\nand not memcpy and memset alone, as README.md and rollback.h say\n' "$needed"
+    exit 1
+fi
+printf 'needs these two from whoever links it:\n%s\n' "$needed"

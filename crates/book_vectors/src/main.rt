@@ -14,32 +14,21 @@ struct Buffers {
 }
 
 impl Buffers {
-    // As they are before a call: the table's pattern, the index mod 251 in the slots, 40,000 + index in the weights.
-    fn new() -> Buffers {
-        let mut table = [0; 2053];
-        let mut slots = [0; 2181];
-        let mut weights = [0; 37];
-        vectors::pattern(&mut table);
-        for (i, slot) in slots.iter_mut().enumerate() {
-            *slot = (i % 251) as u8;
-        }
-        for (i, weight) in weights.iter_mut().enumerate() {
-            *weight = 40000 + i as u16;
-        }
-        Buffers {
-            table,
-            slots,
-            weights,
-        }
-    }
-
-    // What a case lends of them.
+    // What a case lends of them, as they are before a call: the table's pattern, the index mod 251 in the slots, 40,000 + index in the weights. Filled
+    // where they stand: as a value they are copied at each step.
     fn lend(&mut self, lending: Lending) -> (&mut [u64], &mut [u8], &mut [u16]) {
         let Buffers {
             table,
             slots,
             weights,
         } = self;
+        vectors::pattern(table);
+        for (i, slot) in slots.iter_mut().enumerate() {
+            *slot = (i % 251) as u8;
+        }
+        for (i, weight) in weights.iter_mut().enumerate() {
+            *weight = 40000 + i as u16;
+        }
         (
             &mut table[..lending.size(2053, 1)],
             &mut slots[..lending.size(2181, 2)],
@@ -51,11 +40,14 @@ impl Buffers {
 // One case: reading, then checking with the buffers as before reading, and what they hold after it.
 fn run_case(rt: &impl Print, head: &[u8], book: &[u8]) {
     let lending = Lending::of(octets::byte_at(head, 0), 3);
-    let mut buffers = Buffers::new();
+    let mut buffers = Buffers {
+        table: [0; 2053],
+        slots: [0; 2181],
+        weights: [0; 37],
+    };
     let (table, slots, weights) = buffers.lend(lending);
     let r = reader::read(book, table, slots, weights);
     vectors::print_row(rt, &[r.code, r.place, r.n, r.m, r.items]);
-    let mut buffers = Buffers::new();
     let (table, slots, weights) = buffers.lend(lending);
     let r = checker::check(book, table, slots, weights);
     vectors::print_row(rt, &[r.code, r.place, r.n, r.m, r.items, r.units]);

@@ -34,8 +34,10 @@ pub fn write_chain(
     while 0 < j {
         let a = octets::byte_at(items, j as usize);
         let item = items::parts_at(book, octets::word_at(places, a as usize) as usize);
-        // The item's number of forward commands, brought into 1 to j where it is not: only a chain that can't be walked has such an item.
-        let lower = j - (item.k as u64).clamp(1, j);
+        // An item that doesn't go down, or goes below 0, ends the walk: only a chain that can't be walked has such an item.
+        let k = item.k as u64;
+        let down = if (1..=j).contains(&k) { k } else { j };
+        let lower = j - down;
         octets::copy(item.r, book, item.reverse, plan, counts.commands as usize);
         let leg = [a as u8, j as u8, lower as u8];
         octets::copy(3, &leg, 0, legs, 3 * counts.legs as usize);

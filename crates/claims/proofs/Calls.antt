@@ -22,12 +22,17 @@ use Rattle.checker.specs.declared.Reason.{Reason}
 use Rattle.checker.specs.declared.Reason.TheVariants.{NoReversePlan, NotEffective}
 use Rattle.checker.specs.Reasons.{code_of}
 use Rattle.checker.specs.Checks.{Checks}
-use Rattle.checker.specs.Contract.{CheckAs, CheckTableAs}
+use Rattle.std.specs.Prelude.{Result, Ok, Err}
+use Rattle.checker.specs.declared.Counts.{Counts}
+use Rattle.checker.specs.declared.Rejected.{Rejected}
+use Rattle.checker.specs.Contract.{checking_by, CheckAs, CheckInTableAs, CheckTableAs}
 use Rattle.checker.proofs.Exactly.{checks}
 use Rattle.checker.proofs.Unique.{zero↔ as check-zero↔, wrong_for, checked-wrong}
 use Rattle.checker.proofs.TableChecks.{checks_table, table_checks_unique, table_zero↔}
+use Rattle.checker.proofs.Ways.{table_as}
 use Rattle.checker.specs.contracts.check as check
 use Rattle.checker.specs.contracts.check_table as check-table
+use Rattle.checker.specs.contracts.check_in_table as check-in-table
 use Rattle.forecast.specs.Contract.{ForecastAs}
 use Rattle.forecast.proofs.Exactly.{forecasts}
 use Rattle.forecast.proofs.Unique.{zero↔ as forecast-zero↔, never, refused-zeros}
@@ -62,8 +67,10 @@ use Rattle.ridge_rule.specs.Ridge.{ridge}
 use Rattle.ridge_rule.specs.contracts.outcomes as outcomes
 use Rattle.ridge.specs.contracts.lookup as lookup
 use Rattle.ridge.specs.contracts.table as ridge-table
+use Rattle.ridge.specs.contracts.entries as ridge-entries
 use Rattle.portable_rule.specs.Portable.{portable}
 use Rattle.portable.specs.contracts.table as portable-table
+use Rattle.portable.specs.contracts.entries as portable-entries
 use Rattle.paper.specs.declared.Paged.{Paged}
 use Rattle.paper.specs.Pages.{page_sizes, Pages}
 use Rattle.paper.specs.Cases.{PageGiven}
@@ -78,8 +85,8 @@ use Rattle.planner.specs.contracts.rollback_assemble_legs as assemble-legs
 use Rattle.report.specs.Contract.{ReportAs}
 use Rattle.report.proofs.Exactly.{reports}
 use Rattle.report.specs.contracts.report as report
-use Rattle.claims.specs.Always.{Compiled, Always, AlwaysHeld}
-use Rattle.claims.specs.Claims.{Implementation, visit_ended, sent_ended, on_visit, on_sent, held, on_read, on_check, on_check_table, on_forecast, on_find, on_write, on_assemble, on_small, on_legs, on_lay_out, on_lookup, on_outcomes, on_report, WellWritten, ReadClaims, ChecksWrong, CheckClaims, AsChecking, CheckTableClaims, ForecastNumbers, NoneExceeds, ForecastClaims, FindsZero, FindsBarred, FindsNone, FoundCommands, FoundAsChecking, FindClaims, WriteClaims, AssembleClaims, SmallClaims, EqualForms, LegsClaims, AsAssembling, PaperClaims, LookupClaims, RuleClaims, ConstantTable, RidgeTable, PortableTable, ReportClaims, VisitClaims}
+use Rattle.claims.specs.Always.{After, Compiled, Always, AlwaysHeld}
+use Rattle.claims.specs.Claims.{answer_by, Implementation, visit_ended, sent_ended, on_visit, on_sent, held, on_read, on_check, on_check_table, on_check_in_table, on_forecast, on_find, on_write, on_assemble, on_small, on_legs, on_lay_out, on_lookup, on_outcomes, on_report, WellWritten, ReadClaims, ChecksWrong, CheckClaims, AsChecking, CheckTableClaims, CheckInTableClaims, ForecastNumbers, NoneExceeds, ForecastClaims, FindsZero, FindsBarred, FindsNone, FoundCommands, FoundAsChecking, FindClaims, WriteClaims, AssembleClaims, SmallClaims, EqualForms, LegsClaims, AsAssembling, PaperClaims, LookupClaims, RuleClaims, ConstantTable, RidgeTable, PortableTable, RidgeEntries, PortableEntries, ReportClaims, VisitClaims}
 use Rattle.claims.specs.Worked.{ChecksWorked, TableWorked, ForecastsWorked, FindsWorked, AssemblesWorked, SmallWorked, PaperWorked, ReadsWorked, WritesWorked}
 use Rattle.claims.proofs.Weaker.{weaker, weaker_held}
 use Rattle.claims.proofs.RoundTrips.{read_back, write_back}
@@ -117,6 +124,20 @@ visit_claims I ρ σ visits sends =
           (on_sent I κ (λ d c w r. d.n ≤ 64 → d.m ≤ 32 → SendsToPresent d c w r)) (λ κs a r e q hn hm. sent_present _ _ _ hn hm q) (sends κ);
     }
 
+-- what the call with a `Result` promises of the answer that stands for it
+abbrev on_in_table : After check-in-table.ended
+on_in_table κs (book, (table, _)) r (_, (table', _)) = CheckInTableAs book.now table.now (checking_by r) table'.now
+
+abbrev AlwaysInTable : Compiled → Type 2
+AlwaysInTable ρ = Always check-in-table.ended ρ on_in_table
+
+table_answer : {s table table' : List ℕ} (r : Result Counts Rejected) → CheckInTableAs s table (checking_by r) table' → CheckTableAs s table (answer_by r) table'
+table_answer (Ok b) c = table_as c
+table_answer (Err e) c = table_as c
+
+in_table : (ρ : Compiled) → AlwaysInTable ρ → Always check-in-table.ended ρ (on_check_in_table CheckTableAs)
+in_table ρ = weaker check-in-table.ended ρ on_in_table (on_check_in_table CheckTableAs) (λ κs a r e. table_answer r)
+
 module _ (ρ : Compiled) where
   pub read_claims : Always read.ended ρ (on_read ReadAs) → ReadClaims ρ
   read_claims always =
@@ -144,6 +165,17 @@ module _ (ρ : Compiled) where
         as_checking =
             weaker check-table.ended ρ (on_check_table CheckTableAs) (on_check_table AsChecking)
             (λ κs a r e c slots weights q l' x long enough. table_checks_unique c.bytes c.says (checks_table x long enough)) always;
+      }
+
+  pub check_in_table_claims : AlwaysInTable ρ → CheckInTableClaims ρ
+  check_in_table_claims always =
+      let told = in_table ρ always in
+      record {
+        says = weaker check-in-table.ended ρ (on_check_in_table CheckTableAs) _ (λ κs a r e c. c.says) told;
+        zero = weaker check-in-table.ended ρ (on_check_in_table CheckTableAs) _ (λ κs a r e c. table_zero↔ c.bytes c.says) told;
+        as_checking =
+            weaker check-in-table.ended ρ (on_check_in_table CheckTableAs) (on_check_in_table AsChecking)
+            (λ κs a r e c slots weights q l' x long enough. table_checks_unique c.bytes c.says (checks_table x long enough)) told;
       }
 
   pub forecast_claims : Always forecast.ended ρ (on_forecast ForecastAs) → ForecastClaims ρ
@@ -239,6 +271,12 @@ module _ (ρ : Compiled) where
   pub portable_table_claims : Always portable-table.ended ρ (λ κs a r e. EqualsRule portable 384 r) → PortableTable ρ
   portable_table_claims = weaker portable-table.ended ρ (λ κs a r e. EqualsRule portable 384 r) _ (λ κs a r e. constant_table)
 
+  pub ridge_entries_claims : Always ridge-entries.ended ρ (λ κs a r e. EqualsRule ridge 616 r.now) → RidgeEntries ρ
+  ridge_entries_claims = weaker ridge-entries.ended ρ (λ κs a r e. EqualsRule ridge 616 r.now) _ (λ κs a r e. constant_table)
+
+  pub portable_entries_claims : Always portable-entries.ended ρ (λ κs a r e. EqualsRule portable 384 r.now) → PortableEntries ρ
+  portable_entries_claims = weaker portable-entries.ended ρ (λ κs a r e. EqualsRule portable 384 r.now) _ (λ κs a r e. constant_table)
+
   pub report_claims : Always report.ended ρ (on_report ReportAs) → ReportClaims ρ
   report_claims always =
       record { says = weaker report.ended ρ (on_report ReportAs) _ (λ κs a r e c. reports c) always }
@@ -281,6 +319,12 @@ module _ (ρ : Compiled) where
   table_worked =
       weaker check-table.ended ρ (on_check_table CheckTableAs) (on_check_table TableWorked)
       (λ κs a r e c. record { read = λ answer entry mask gives long. gives.result c.says long; kept = λ answer keeps long. keeps.result c.says long })
+
+  pub in_table_worked : AlwaysInTable ρ → Always check-in-table.ended ρ (on_check_in_table TableWorked)
+  in_table_worked always =
+      weaker check-in-table.ended ρ (on_check_in_table CheckTableAs) (on_check_in_table TableWorked)
+      (λ κs a r e c. record { read = λ answer entry mask gives long. gives.result c.says long; kept = λ answer keeps long. keeps.result c.says long })
+      (in_table ρ always)
 
   pub forecast_worked : Always forecast.ended ρ (on_forecast ForecastAs) → Always forecast.ended ρ (on_forecast ForecastsWorked)
   forecast_worked =

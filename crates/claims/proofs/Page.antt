@@ -97,6 +97,9 @@ use Rattle.checker.proofs.check.Met.{met as check-met}
 use Rattle.checker.specs.contracts.check_table as check-table
 use Rattle.checker.proofs.check_table.Symbol as check_table_routine_symbol
 use Rattle.checker.proofs.check_table.Met.{met as check-table-met}
+use Rattle.checker.specs.contracts.check_in_table as check-in-table
+use Rattle.checker.proofs.check_in_table.Symbol as check_in_table_routine_symbol
+use Rattle.checker.proofs.check_in_table.Met.{met as check-in-table-met}
 use Rattle.forecast.specs.declared.Forecasted.{Forecasted}
 use Rattle.forecast.specs.Forecasts.{Forecasts}
 use Rattle.forecast.specs.Cases.{QForecast}
@@ -163,6 +166,8 @@ use Rattle.ridge_rule.proofs.outcomes.Symbol as ridge_outcomes_routine_symbol
 use Rattle.ridge_rule.proofs.outcomes.Met.{met as ridge-outcomes-met}
 use Rattle.ridge.proofs.table.Symbol as ridge_table_routine_symbol
 use Rattle.ridge.proofs.table.Met.{met as ridge-table-met}
+use Rattle.ridge.proofs.entries.Symbol as ridge_entries_routine_symbol
+use Rattle.ridge.proofs.entries.Met.{met as ridge-entries-met}
 use Rattle.portable_rule.specs.Portable.{portable}
 use Rattle.portable_rule.specs.Figures as portable-example
 use Rattle.portable_rule.proofs.Rules.{rule_mask_lem as portable-mask, works_out as portable-works-out, leads_inside as portable-leads-inside}
@@ -173,6 +178,8 @@ use Rattle.portable_rule.proofs.outcomes.Symbol as portable_outcomes_routine_sym
 use Rattle.portable_rule.proofs.outcomes.Met.{met as portable-outcomes-met}
 use Rattle.portable.proofs.table.Symbol as portable_table_routine_symbol
 use Rattle.portable.proofs.table.Met.{met as portable-table-met}
+use Rattle.portable.proofs.entries.Symbol as portable_entries_routine_symbol
+use Rattle.portable.proofs.entries.Met.{met as portable-entries-met}
 use Rattle.paper.specs.declared.Paged.{Paged}
 use Rattle.paper.specs.Taken.{commands_on, down}
 use Rattle.paper.specs.Pages.{page_sizes, lines_on, Pages, PageDemand, TakenDown}
@@ -219,12 +226,12 @@ use Rattle.report.specs.Edges as report-edges
 use Rattle.report.proofs.Edges as report-edge-cases
 use Rattle.report.proofs.report.Symbol as report_routine_symbol
 use Rattle.report.proofs.report.Met.{met as report-met}
-use Rattle.claims.specs.Claims.{Implementation, by_table, by_moves, on_read, on_check, on_check_table, on_forecast, on_find, on_write, on_assemble, on_small, on_legs, on_lay_out, ReadClaims, UnitsForeseen, CheckClaims, CheckTableClaims, ForecastNumbers, ForecastClaims, FoundJoins, FindClaims, WriteClaims, PlanUndoes, SmallUndoes, AssembleClaims, SmallClaims, EqualForms, LegsClaims, PaperClaims, LookupClaims, RuleClaims, ConstantTable, RidgeTable, PortableTable, VisitClaims, ReportClaims}
+use Rattle.claims.specs.Claims.{Implementation, by_table, by_moves, on_read, on_check, on_check_table, on_check_in_table, on_forecast, on_find, on_write, on_assemble, on_small, on_legs, on_lay_out, ReadClaims, UnitsForeseen, CheckClaims, CheckTableClaims, CheckInTableClaims, ForecastNumbers, ForecastClaims, FoundJoins, FindClaims, WriteClaims, PlanUndoes, SmallUndoes, AssembleClaims, SmallClaims, EqualForms, LegsClaims, PaperClaims, LookupClaims, RuleClaims, ConstantTable, RidgeTable, PortableTable, RidgeEntries, PortableEntries, VisitClaims, ReportClaims}
 use Rattle.claims.specs.Always.{Compiled, Always}
 use Rattle.claims.specs.Worked.{ChecksWorked, TableWorked, ForecastsWorked, FindsWorked, AssemblesWorked, SmallWorked, PaperWorked, ReadsWorked, WritesWorked}
 use Rattle.claims.proofs.Foreseen as foreseen
 use Rattle.claims.proofs.Follows as follows
-use Rattle.claims.proofs.Calls.{read_claims, check_claims, forecast_claims, find_claims, write_claims, assemble_claims, small_claims, equal_claims, legs_claims, paper_claims, lookup_claims, rule_claims, ridge_table_claims, portable_table_claims, report_claims, check_worked, forecast_worked, find_worked, assemble_worked, small_worked, legs_worked, paper_worked, check_table_claims, table_worked, visit_claims, read_worked, write_worked}
+use Rattle.claims.proofs.Calls.{read_claims, check_claims, forecast_claims, find_claims, write_claims, assemble_claims, small_claims, equal_claims, legs_claims, paper_claims, lookup_claims, rule_claims, ridge_table_claims, portable_table_claims, ridge_entries_claims, portable_entries_claims, report_claims, check_worked, forecast_worked, find_worked, assemble_worked, small_worked, legs_worked, paper_worked, check_table_claims, check_in_table_claims, table_worked, in_table_worked, visit_claims, read_worked, write_worked}
 
 -- ---- the compiled code of the calls
 
@@ -260,6 +267,9 @@ check_routine = record { name = check_routine_symbol.name; code = check_routine_
 abbrev check_table_routine : Compiled
 check_table_routine = record { name = check_table_routine_symbol.name; code = check_table_routine_symbol.code }
 
+abbrev check_in_table_routine : Compiled
+check_in_table_routine = record { name = check_in_table_routine_symbol.name; code = check_in_table_routine_symbol.code }
+
 abbrev forecast_routine : Compiled
 forecast_routine = record { name = forecast_routine_symbol.name; code = forecast_routine_symbol.code }
 
@@ -284,6 +294,9 @@ ridge_outcomes_routine = record { name = ridge_outcomes_routine_symbol.name; cod
 abbrev ridge_table_routine : Compiled
 ridge_table_routine = record { name = ridge_table_routine_symbol.name; code = ridge_table_routine_symbol.code }
 
+abbrev ridge_entries_routine : Compiled
+ridge_entries_routine = record { name = ridge_entries_routine_symbol.name; code = ridge_entries_routine_symbol.code }
+
 abbrev portable_lookup_routine : Compiled
 portable_lookup_routine = record { name = portable_lookup_routine_symbol.name; code = portable_lookup_routine_symbol.code }
 
@@ -292,6 +305,9 @@ portable_outcomes_routine = record { name = portable_outcomes_routine_symbol.nam
 
 abbrev portable_table_routine : Compiled
 portable_table_routine = record { name = portable_table_routine_symbol.name; code = portable_table_routine_symbol.code }
+
+abbrev portable_entries_routine : Compiled
+portable_entries_routine = record { name = portable_entries_routine_symbol.name; code = portable_entries_routine_symbol.code }
 
 abbrev lay_out_routine : Compiled
 lay_out_routine = record { name = lay_out_routine_symbol.name; code = lay_out_routine_symbol.code }
@@ -423,6 +439,10 @@ exported_checking = check_claims exported_check_routine (λ M. exported-check-me
 pub checking-table : CheckTableClaims check_table_routine
 checking-table = check_table_claims check_table_routine (λ M. check-table-met)
 
+-- the same of what finding goes through
+pub checking-in-table : CheckInTableClaims check_in_table_routine
+checking-in-table = check_in_table_claims check_in_table_routine (λ M. check-in-table-met)
+
 -- how much checking a book will take
 pub forecasting : ForecastClaims forecast_routine
 forecasting = forecast_claims forecast_routine (λ M. forecast-met)
@@ -494,6 +514,10 @@ exported_looking_up_ridge = lookup_claims exported_ridge_routine ridge-works-out
 pub ridge-table : RidgeTable ridge_table_routine
 ridge-table = ridge_table_claims ridge_table_routine (λ M. ridge-table-met)
 
+-- and of the entries that the lookup reads
+pub ridge-entries : RidgeEntries ridge_entries_routine
+ridge-entries = ridge_entries_claims ridge_entries_routine (λ M. ridge-entries-met)
+
 pub ridge_rule_lem : RuleClaims ridge ridge_outcomes_routine
 ridge_rule_lem = rule_claims ridge_outcomes_routine ridge-mask (λ M. ridge-outcomes-met)
 
@@ -506,6 +530,9 @@ exported_looking_up_portable = lookup_claims exported_portable_routine portable-
 
 pub portable-table : PortableTable portable_table_routine
 portable-table = portable_table_claims portable_table_routine (λ M. portable-table-met)
+
+pub portable-entries : PortableEntries portable_entries_routine
+portable-entries = portable_entries_claims portable_entries_routine (λ M. portable-entries-met)
 
 pub portable_rule_lem : RuleClaims portable portable_outcomes_routine
 portable_rule_lem = rule_claims portable_outcomes_routine portable-mask (λ M. portable-outcomes-met)
@@ -826,6 +853,9 @@ worked_checking = check_worked check_routine (λ M. check-met)
 
 pub worked_table : Always check-table.ended check_table_routine (on_check_table TableWorked)
 worked_table = table_worked check_table_routine (λ M. check-table-met)
+
+pub worked_in_table : Always check-in-table.ended check_in_table_routine (on_check_in_table TableWorked)
+worked_in_table = in_table_worked check_in_table_routine (λ M. check-in-table-met)
 
 pub worked_forecast : Always forecast.ended forecast_routine (on_forecast ForecastsWorked)
 worked_forecast = forecast_worked forecast_routine (λ M. forecast-met)

@@ -1,12 +1,13 @@
 -- What is claimed of the public calls: for each call a record of claims about a routine ρ, which proofs/Page gives for the call itself and for the
--- exported one. A claim speaks of the arguments, the result r and the arguments at exit, marked '. Nothing is asked of the caller.
+-- exported one. A claim speaks of the arguments, the result r and the arguments at exit, marked '. Nothing is asked of the caller
+-- (of `AlwaysHeld`: specs/Always).
 use base.Fml.{Lft}
 use contract.BorrowLft.{◌⊑◌}
 use contract.Lifetimes.{Lfts, lft_at}
 use denote.RattleType.{RattleType}
 use denote.Triple.Clauses.{Ended}
 use mir.Syntax.{Dict, erased}
-use Rattle.std.specs.Prelude.{◌≡◌, Option, ◌↔◌, List, [], ◌∷◌, ◌++◌, ℕ, ◌*◌, ◌/◌, ◌%◌, ◌<◌, ◌≤◌, length, get_or, take}
+use Rattle.std.specs.Prelude.{◌≡◌, Option, Result, Ok, Err, ◌↔◌, List, [], ◌∷◌, ◌++◌, ℕ, ◌*◌, ◌/◌, ◌%◌, ◌<◌, ◌≤◌, length, get_or, take}
 use Rattle.base.specs.Sizes.{LongEnough}
 use Rattle.reversal.specs.Device.{Device}
 use Rattle.reversal.specs.Reversal.{Item}
@@ -35,6 +36,10 @@ use Rattle.checker.specs.declared.TableChecking.{TableChecking}
 use Rattle.checker.specs.TableChecks.{answer_of, TableChecks}
 use Rattle.checker.specs.contracts.check as check
 use Rattle.checker.specs.contracts.check_table as check-table
+use Rattle.checker.specs.contracts.check_in_table as check-in-table
+use Rattle.checker.specs.declared.Counts.{Counts}
+use Rattle.checker.specs.declared.Rejected.{Rejected}
+use Rattle.book.specs.Faults.{code_of}
 use Rattle.forecast.specs.declared.Forecasted.{Forecasted}
 use Rattle.forecast.specs.Forecasts.{Forecasts}
 use Rattle.forecast.specs.contracts.forecast as forecast
@@ -59,8 +64,10 @@ use Rattle.ridge_rule.specs.Ridge.{ridge}
 use Rattle.ridge.specs.contracts.lookup as lookup
 use Rattle.ridge_rule.specs.contracts.outcomes as outcomes
 use Rattle.ridge.specs.contracts.table as ridge-table
+use Rattle.ridge.specs.contracts.entries as ridge-entries
 use Rattle.portable_rule.specs.Portable.{portable}
 use Rattle.portable.specs.contracts.table as portable-table
+use Rattle.portable.specs.contracts.entries as portable-entries
 use Rattle.paper.specs.declared.Paged.{Paged}
 use Rattle.paper.specs.Pages.{page_sizes, Pages, PageDemand, TakenDown}
 use Rattle.paper.specs.contracts.lay_out as lay-out
@@ -93,6 +100,14 @@ CheckTable = List ℕ → List ℕ → TableChecking → List ℕ → Type 0
 
 abbrev pub on_check_table : CheckTable → After check-table.ended
 on_check_table P κs (book, (table, _)) r (_, (table', _)) = P book.now table.now r table'.now
+
+-- the same with a `Result`, and the answer that it stands for
+abbrev pub answer_by : Result Counts Rejected → TableChecking
+answer_by (Ok b) = record { code = 0; place = 0; n = b.n; m = b.m }
+answer_by (Err r) = record { code = code_of r.at.fault; place = r.at.place; n = 0; m = 0 }
+
+abbrev pub on_check_in_table : CheckTable → After check-in-table.ended
+on_check_in_table P κs (book, (table, _)) r (_, (table', _)) = P book.now table.now (answer_by r) table'.now
 
 -- no buffer is lent
 abbrev pub Forecast : Type 1
@@ -256,12 +271,18 @@ AsChecking book table r table' =
     (slots weights : List ℕ) (c : Checking) (l' : Lent) → Checks book (lent table slots weights) c l' → 2176 ≤ length slots → 32 ≤ length weights
     → (r ≡ answer_of c) × (table' ≡ l'.table)
 
--- checking with a table as the only buffer, on which 02's calls that take a book and a table stand
+-- checking with a table as the only buffer
 pub record CheckTableClaims (ρ : Compiled) : Type 2 where
   -- 1 straight away and the book's codes with the table untouched; 8 and 12, and 0, with the table read
   pub says : Always check-table.ended ρ (on_check_table TableChecks)
   pub zero : Always check-table.ended ρ (on_check_table TableZero)
   pub as_checking : Always check-table.ended ρ (on_check_table AsChecking)
+
+-- the same of the call with a `Result`, on which 02's calls that take a book and a table stand: what finding goes through
+pub record CheckInTableClaims (ρ : Compiled) : Type 2 where
+  pub says : Always check-in-table.ended ρ (on_check_in_table TableChecks)
+  pub zero : Always check-in-table.ended ρ (on_check_in_table TableZero)
+  pub as_checking : Always check-in-table.ended ρ (on_check_in_table AsChecking)
 
 -- the forecast answers 0 exactly on the bytes of some allowed book and at most 32 commands
 abbrev pub ForecastsZero : Forecast
@@ -429,6 +450,13 @@ RidgeTable ρ = Always ridge-table.ended ρ (λ κs a r e. ConstantTable ridge 6
 -- 02: "its constant table of 384 masks", none of them empty
 abbrev pub PortableTable : Compiled → Type 2
 PortableTable ρ = Always portable-table.ended ρ (λ κs a r e. ConstantTable portable 384 r)
+
+-- the same tables, lent: the entries that the lookups read
+abbrev pub RidgeEntries : Compiled → Type 2
+RidgeEntries ρ = Always ridge-entries.ended ρ (λ κs a r e. ConstantTable ridge 616 r.now)
+
+abbrev pub PortableEntries : Compiled → Type 2
+PortableEntries ρ = Always portable-entries.ended ρ (λ κs a r e. ConstantTable portable 384 r.now)
 
 -- 02, request 4: a command visits the states present alone, lowest first; one that is sent to a set goes no further than the first that is stuck; of the
 -- device that is lent, however its outcomes are looked up

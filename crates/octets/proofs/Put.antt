@@ -9,7 +9,7 @@ use native.Mathlib.Decide.{dec_lt}
 use native.Mathlib.Omega.{arith}
 use borrow.Author.Tests.{leb-false}
 use lib.Dec.{T, leb}
-use lib.ListN.{length, get_or, set, take, drop, length-drop, length-append, drop_of_length-le, get_or-eq_default}
+use lib.ListN.{length, get_or, set, take, drop, replicate, length-drop, length-append, drop_of_length-le, get_or-eq_default}
 use lib.Pow.{mod-pow-add}
 use lib.Seq.{set_out, set-set, set_comm, sets, sets-eq, drop-cons, drop-drop, take_at, length-take-le}
 use Rattle.base.specs.Lists.{Each, Bytes}
@@ -86,6 +86,19 @@ module _ (whole : List ℕ) (left x to : ℕ) where
   pub put_none : (d : List ℕ) → sets d to (bytes_le left x) ≡ whole → left ≡ 0 → d ≡ whole
   unfolding bytes_le
   put_none d w h = rw h at w
+
+-- ---- one byte stored again and again: what is left to store gives the whole
+module _ (whole : List ℕ) (left b to : ℕ) where
+  pub fill_again : (d : List ℕ) → sets d to (replicate left b) ≡ whole → (left ≡ 0 → ⊥) → sets (set d to b) (to + 1) (replicate (left - 1) b) ≡ whole
+  fill_again d w h =
+      let e : left ≡ suc (left - 1) = omega arith in
+      rw (add-one to) (rw e at w)
+
+  pub fill_none : (d : List ℕ) → sets d to (replicate left b) ≡ whole → left ≡ 0 → d ≡ whole
+  fill_none d w h = rw h at w
+
+  pub fill_past : (d : List ℕ) → sets d to (replicate left b) ≡ whole → length d ≤ to → d ≡ whole
+  fill_past d w h = sym (sets_past d to (replicate left b) h) ∙ w
 
 -- ---- the test for room
 pub no_room : (r : Bool) (len at n : ℕ) → r ≡ leb (at + n) len → not r ≡ true → len < at + n

@@ -23,15 +23,6 @@ pub sets_lent : (d : List ℕ) (a k : ℕ) (xs : List ℕ) → a + k ≤ length 
     → take a d ++ (xs ++ drop k (drop a d)) ≡ sets d a xs
 sets_lent d a k xs h l = rw (drop-drop k a d, ← l) (sym (append_assoc (take a d) xs _) ∙ sym (sets-eq xs d a (omega arith)))
 
--- the same of n elements of s, from p on
-pub copy_lent : (d : List ℕ) (q n : ℕ) (s : List ℕ) (p : ℕ) (part : List ℕ) → q + n ≤ length d → p + n ≤ length s → part ≡ between p (p + n) s
-    → take q d ++ (part ++ drop (q + n - q) (drop q d)) ≡ sets d q (piece n s p)
-copy_lent d q n s p part h l e =
-    let k : q + n - q ≡ n = omega arith in
-    let m : p + n - p ≡ n = omega arith in
-    let i : part ≡ piece n s p = (rw m at e) ∙ sym (piece-take n s p l) in
-    rw (k, i) (sets_lent d q n (piece n s p) h (length-piece n s p))
-
 -- a row stored over a whole row
 pub sets_all : (d xs : List ℕ) → length xs ≡ length d → sets d 0 xs ≡ xs
 sets_all d xs l =

@@ -106,16 +106,26 @@ fn put_all(v: u64, d: &mut [u8])
 }
 
 // Stores the n lowest bytes of v, lowest first, from `at` on, as far as there is room.
-#[tactic(auto, using(crate::proofs::Room::put_lent, crate::proofs::Room::put_room))]
+#[tactic(auto, using(crate::proofs::Room::put_lent))]
 pub fn put_le(n: usize, v: u64, d: &mut [u8], at: usize)
     ensures { d.new ≡ sets d.old at (bytes_le n v) }
 {
     if has_room(d.len(), at, n) {
         put_all(v, &mut d[at..at + n]);
     } else {
-        let room = part(d.len(), at, n);
-        put_all(v, &mut d[room]);
+        put_part(n, v, d, at);
     }
+}
+
+// The same where not all of them have room. Not inlined: in a loop over numbers that all have room, as writing's over the weights, the compiler works out
+// at each turn which part has.
+#[inline(never)]
+#[tactic(auto, using(crate::proofs::Room::put_room))]
+fn put_part(n: usize, v: u64, d: &mut [u8], at: usize)
+    ensures { d.new ≡ sets d.old at (bytes_le n v) }
+{
+    let room = part(d.len(), at, n);
+    put_all(v, &mut d[room]);
 }
 
 // Where n elements from `at` on stand in a row of `len`, as far as there are any.
@@ -134,12 +144,17 @@ pub fn fill(n: usize, b: u8, d: &mut [u8], at: usize)
     d[room].fill(b);
 }
 
-// Stores n bytes of s from p on, 0 past its end, into d, from q on, as far as there is room.
+// Stores n bytes of s from p on, 0 past its end, into d, from q on, as far as there is room. Byte by byte: where the compiler doesn't see that the two
+// rows are apart, the library's copy_from_slice becomes a call of memmove, and the archive for C needs memcpy and memset alone.
+#[tactic(auto, using(crate::proofs::Room::copy_room))]
 pub fn copy(n: usize, s: &[u8], p: usize, d: &mut [u8], q: usize)
     ensures { d.new ≡ sets d.old q (piece n s.now p) }
 {
     if has_room(s.len(), p, n) && has_room(d.len(), q, n) {
-        d[q..q + n].copy_from_slice(&s[p..p + n]);
+        let from = &s[p..p + n];
+        for (i, b) in d[q..q + n].iter_mut().enumerate() {
+            *b = from[i];
+        }
     } else {
         copy_part(n, s, p, d, q);
     }

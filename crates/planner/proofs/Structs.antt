@@ -2,6 +2,7 @@
 use mathlib.Core.Path.{◌≡◌, refl, sym, ap, ap₂, ◌∙◌, subst}
 use mathlib.Core.List.{List, [], ◌∷◌, map}
 use Prim.Native.Nat.{ℕ, suc, ◌+◌, ◌-◌, ◌≤◌, ◌<◌}
+use native.Mathlib.Decide.{dec_lt}
 use native.Mathlib.Omega.{arith}
 use lib.ListN.{length, set, take}
 use lib.Seq.{sets}
@@ -97,3 +98,19 @@ module _ {ask : Asked} {read : Lent} {plan : List ℕ} {r : Assembly} {read' : L
               (q, ap (all_lent read' plan') (counted q) ∙ ap (λ (x : AllLent ℕ). all_lent x.read x.room.plan legs) w);
           enough = λ h. let (p, k) = c.enough (h.0, (omega arith, h.1.1)) in (structs_planned p, k);
         }
+
+-- ---- the whole call, by its two cases
+module _ {ask : Asked} {read : Lent} {plan : List ℕ} {r : Assembly} {read' : Lent} {plan' bytes : List ℕ} where
+  pub legs_told : (legs legs' : List Leg) → Each (λ x. x < 256) ask.book
+      → (length legs < 32 → (r ≡ refusal 1 0) × (read' ≡ read) × (plan' ≡ plan))
+      → (32 ≤ length legs → AssembleAs in_bytes ask (all_lent read plan zeros) r (all_lent read' plan' bytes))
+      → legs' ≡ sets legs 0 (structs_in bytes r.legs 0) → AssembleAs in_structs ask (all_lent read plan legs) r (all_lent read' plan' legs')
+  unfolding legs_read
+  legs_told legs legs' h few enough e = go (dec_lt (length legs) 32)
+    where
+      go : Dec (length legs < 32) → AssembleAs in_structs ask (all_lent read plan legs) r (all_lent read' plan' legs')
+      go (yes l) =
+          let (p, er, ep) = few l in
+          let none : legs' ≡ legs = e ∙ ap (λ (x : Assembly). sets legs 0 (structs_in bytes x.legs 0)) p in
+          rw (er, ep, none) (structs_short {ask = ask} {read = read} {plan = plan} {legs = legs} h l p)
+      go (no l) = told_enough (enough (omega arith)) legs legs' (omega arith) e

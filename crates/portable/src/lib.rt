@@ -12,7 +12,7 @@ use lookups::LookupResult;
 use portable_rule::PortableRelay;
 
 // The constant table of 384 masks, lent from read-only memory: entry state * 12 + command. None is empty.
-fn entries() -> &'static [u64; 384]
+pub fn entries() -> &'static [u64; 384]
     ensures { EqualsRule portable 384 result.now }
 {
     &masks::MASKS

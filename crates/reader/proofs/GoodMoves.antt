@@ -1,9 +1,10 @@
 -- Moves without a fault, passed one after the other: what the loop finds at a place, and that judging goes on from where it ends. Assumes nothing.
-use mathlib.Core.Path.{◌≡◌, refl, sym, ap, ◌∙◌, subst}
+use mathlib.Core.Path.{◌≡◌, refl, sym, ap, ap₂, ◌∙◌, subst}
 use mathlib.Core.Bool.{true, false, not}
 use mathlib.Core.List.{List, [], ◌∷◌}
 use Rattle.std.specs.Prelude.{Ok}
-use Prim.Native.Nat.{ℕ, ◌+◌, ◌-◌, ◌*◌, ◌%◌, ◌^◌, ◌≤◌, ◌<◌}
+use Prim.Native.Nat.{ℕ, zero, suc, ◌+◌, ◌-◌, ◌*◌, ◌%◌, ◌^◌, ◌≤◌, ◌<◌}
+use native.Mathlib.Nat.{add-zero}
 use native.Mathlib.Omega.{arith}
 use borrow.Author.Tests.{lt-ltb}
 use lib.ListN.{length, get_or, take, drop, length-drop}
@@ -13,7 +14,9 @@ use Rattle.base.specs.Tests.{pick}
 use Rattle.base.specs.Compare.{same}
 use Rattle.base.proofs.Picks.{tests}
 use Rattle.octets.specs.Parts.{le, le_at}
-use Rattle.octets.proofs.LeAt.{le2, halves8}
+use Rattle.octets.proofs.LeAt.{le-suc, le2, halves8}
+use Rattle.std.specs.List.{between}
+use Rattle.std.proofs.lemmas.List.Edits.{get_or-between}
 use Rattle.book.specs.declared.kind.Kind.TheVariants.{MoveRecord}
 use Rattle.book.specs.declared.State.{State}
 use Rattle.book.specs.Limits.{move_fine, move_with}
@@ -24,6 +27,29 @@ use Rattle.reader.specs.Passing.{GoodMove, moved, Passing}
 use Rattle.reader.specs.Passing.Passing.{none, one}
 use Rattle.reader.proofs.Laws.{move_goes, step_of}
 use Rattle.reader.proofs.Turns.{standing, goes}
+
+-- ---- a part of a row
+-- a number in bytes that two rows have alike
+le-same : (n : ℕ) (r s : List ℕ) (i p : ℕ) → ((j : ℕ) → j < n → get_or r (i + j) 0 ≡ get_or s (p + j) 0) → le_at n r i ≡ le_at n s p
+le-same zero r s i p h = refl
+le-same (suc n) r s i p h =
+    let first : get_or r i 0 ≡ get_or s p 0 = rw (add-zero i, add-zero p) at (h 0 (omega arith)) in
+    let rest =
+    le-same n r s (suc i) (suc p)
+    (λ j l.
+    let a : suc i + j ≡ i + suc j = omega arith in
+    let b : suc p + j ≡ p + suc j = omega arith in
+    rw (a, b) (h (suc j) (omega arith))) in
+    le-suc n r i ∙ ap₂ (λ (x y : ℕ). x + 256 * y) first rest ∙ sym (le-suc n s p)
+
+module _ (s : List ℕ) (at end : ℕ) where
+  pub byte-between : (i : ℕ) → at + i < end → get_or (between at end s) i 0 ≡ get_or s (at + i) 0
+  byte-between i l = get_or-between s at end i 0 l
+
+  pub le-between : (i : ℕ) → at + i + 8 ≤ end → le_at 8 (between at end s) i ≡ le_at 8 s (at + i)
+  le-between i l =
+      le-same 8 (between at end s) s i (at + i)
+      (λ j k. let e : at + i + j ≡ at + (i + j) = omega arith in rw e (byte-between (i + j) (omega arith)))
 
 -- ---- what the loop finds at a place
 module _ (s : List ℕ) (at : ℕ) (byte : (i : ℕ) → get_or s i 0 < 256) where

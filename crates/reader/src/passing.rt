@@ -24,10 +24,12 @@ fn low_after(s: &[u8], at: usize, n: u64, m: u64, top: u64, low: u64) -> Option<
     requires { (at + 14 ≤ length s.now) × (n ≤ 64) × (m ≤ 32) × (top + 1 ≡ 2 ^ n) }
     ensures { IfSome result (GoodMove s.now at n m low) }
 {
-    let state = octets::byte_at(s, at + 4);
-    let command = octets::byte_at(s, at + 5);
-    let mask = octets::u64_at(s, at + 6);
-    if octets::u64_at(s, at) % 4294967296 != MOVE_HEAD {
+    // Of the record's bytes alone, whose number is known, no look-up is tested.
+    let record = &s[at..at + MOVE_LEN];
+    let state = octets::byte_at(record, 4);
+    let command = octets::byte_at(record, 5);
+    let mask = octets::u64_at(record, 6);
+    if octets::u64_at(record, 0) % 4294967296 != MOVE_HEAD {
         return None;
     }
     if n <= state || m <= command || mask == 0 || top < mask {

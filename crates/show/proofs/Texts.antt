@@ -2,7 +2,7 @@
 use mathlib.Core.Path.{◌≡◌, refl, sym, ap, ap₂, ◌∙◌, subst}
 use mathlib.Core.List.{List, [], ◌∷◌, ◌++◌, append-nil, append_assoc}
 use Prim.Native.Nat.{ℕ, zero, suc, ◌+◌, ◌-◌, ◌%◌, ◌^◌, ◌≤◌, ◌<◌, min}
-use native.Mathlib.Nat.{zero-add, suc-min-suc}
+use native.Mathlib.Nat.{zero-add, sub-zero, suc-min-suc}
 use native.Mathlib.Omega.{arith}
 use lib.ListN.{length, take, replicate, length-append, length-take, length-replicate}
 use lib.Seq.{sets, take_all, take-nil, take-take}
@@ -81,6 +81,20 @@ module _ (text : List ℕ) (k n : ℕ) (c : IsPrefixLen k text) (f : IsDigitCoun
       -- past the end there is nothing to put
       pub right-past : length mid ≤ at + pad → mid ≡ sets old at (replicate (w - length (decimal n)) space ++ decimal n)
       right-past l = behind mid (sym (sets_past mid (at + pad) (decimal n) l))
+
+-- a number, and one byte
+pub field_put : (old mid new : List ℕ) (at k n b : ℕ) → b < 256 → mid ≡ sets old at (decimal n) → k ≡ length (decimal n)
+    → new ≡ sets mid (at + k) (bytes_le 1 b) → Written old at (field n b) new (at + k + 1)
+field_put old mid new at k n b l e c g =
+    let w : Written old at (decimal n) mid (at + k) = record { row = e; end = ap (λ (x : ℕ). at + x) c } in
+    then w (one_put mid (at + k) b new l g)
+
+-- what puts the rest at `next` puts the whole text at `at`
+abbrev pub Completes : List ℕ → ℕ → List ℕ → List ℕ → ℕ → List ℕ → Type 0
+Completes old at text out next rest = (new : List ℕ) (end : ℕ) → Written out next rest new end → Written old at text new end
+
+pub plan-start : (n : ℕ) (plan : List ℕ) (old : List ℕ) (at : ℕ) → Completes old at (line (piece n plan 0)) old at (line (piece (n - 0) plan 0))
+plan-start n plan old at new end w = rw sub-zero at w
 
 -- a number alone
 pub unpadded_is : (n : ℕ) → right_aligned 0 n ≡ decimal n

@@ -23,7 +23,8 @@ pub fn put_right(out: &mut [u8], at: usize, width: usize, n: u64) -> usize
     pad + k
 }
 
-// A lent row, and the place after the text that is stored there so far: the next part begins at that place.
+// A lent row, and the place after the text that is stored there so far: the next part begins at that place. A place past what 64 bits hold is the
+// highest that they do, and nothing more is promised of the text then.
 #[derive(Drop)]
 pub struct Text<'a> {
     pub out: &'a mut [u8],
@@ -33,29 +34,29 @@ pub struct Text<'a> {
 impl Text<'_> {
     // One byte.
     pub fn put_byte(&mut self, b: u8)
-        requires { self.old.end + 1 < 2 ^ 64 }
-        ensures { Adds self.old (b ∷ []) self.new }
+        ensures adds { self.old.end + 1 < 2 ^ 64 → Adds self.old (b ∷ []) self.new }
+        ensures upper_bound { self.new.end ≤ self.old.end + 1 }
     {
         octets::put_le(1, u64::from(b), self.out, self.end);
-        self.end += 1;
+        self.end = self.end.saturating_add(1);
     }
 
     // Spaces.
     pub fn put_spaces(&mut self, count: usize)
-        requires { self.old.end + count < 2 ^ 64 }
-        ensures { Adds self.old (replicate count space) self.new }
+        ensures adds { self.old.end + count < 2 ^ 64 → Adds self.old (replicate count space) self.new }
+        ensures upper_bound { self.new.end ≤ self.old.end + count }
     {
         octets::fill(count, b' ', self.out, self.end);
-        self.end += count;
+        self.end = self.end.saturating_add(count);
     }
 
     // A number in decimal, with spaces before it up to `width` characters.
     pub fn put_right(&mut self, width: usize, n: u64)
-        requires { self.old.end + (width + 20) < 2 ^ 64 }
-        ensures adds { Adds self.old (right_aligned width n) self.new }
+        ensures adds { self.old.end + (width + 20) < 2 ^ 64 → Adds self.old (right_aligned width n) self.new }
         ensures upper_bound { self.new.end ≤ self.old.end + (width + 20) }
     {
-        self.end += put_right(self.out, self.end, width, n);
+        let stored = put_right(self.out, self.end, width, n);
+        self.end = self.end.saturating_add(stored);
     }
 
     // A number in decimal and a byte after it.

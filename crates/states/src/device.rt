@@ -20,8 +20,8 @@ pub trait Outcomes {
 
     // The outcomes of a command in one of its states.
     fn outcomes_at(&self, state: u64, command: u64) -> u64
-        requires { (state < (device self.now).n) × ((device self.now).n ≤ 64) × ((device self.now).m ≤ 32) }
-        ensures { result ≡ (device self.now).outcomes state command };
+        ensures { (state < (device self.now).n) × ((device self.now).n ≤ 64) × ((device self.now).m ≤ 32)
+            → result ≡ (device self.now).outcomes state command };
 
     // What is no state has no outcomes.
     ghost none_past: { (it : Self) → (s c : ℕ) → (device it).n ≤ s → (device it).outcomes s c ≡ 0 };
@@ -50,8 +50,8 @@ impl<'a> Outcomes for Tabled<'a> {
 
     fn outcomes_at(&self, state: u64, command: u64) -> u64 {
         if command < self.m {
-            let at = (state * self.m + command) as usize;
-            self.table.get(at).copied().unwrap_or(0)
+            let at = state.wrapping_mul(self.m).wrapping_add(command);
+            self.table.get(at as usize).copied().unwrap_or(0)
         } else {
             0
         }

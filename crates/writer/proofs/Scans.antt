@@ -1,12 +1,12 @@
 -- The search for the lowest wrong weight, entry or slot, and the test that all weights are 1. Assumes nothing.
 use mathlib.Core.Path.{◌≡◌, refl, sym, ap, ◌∙◌}
 use mathlib.Core.Bool.{Bool, true, false, not, cond, ◌&&◌}
-use Prim.Native.Nat.{ℕ, zero, suc, ◌+◌, ◌<◌, ◌≤◌}
+use Prim.Native.Nat.{ℕ, zero, suc, ◌+◌, ◌-◌, ◌<◌, ◌≤◌}
 use native.Mathlib.Nat.{zero-add, add-zero}
 use native.Mathlib.Numerals.{add-one}
 use native.Mathlib.Decide.{dec_lt}
 use native.Mathlib.Omega.{arith}
-use mathlib.Core.List.{List}
+use mathlib.Core.List.{List, [], ◌∷◌}
 use lib.ListN.{get_or}
 use lib.Bits.{bit_or}
 use Rattle.std.specs.Prelude.{Option, None, Some, Ok}
@@ -87,3 +87,14 @@ unfolding piece all_one same
 ones_of w zero p = refl
 ones_of w (suc k) p =
     both-is (eqb (get_or w p 0) 1) _ _ (ap (λ (q : ℕ). list_all (λ i. eqb (get_or w i 0) 1) (range_with_len q k)) (add-one p) ∙ ones_of w k (suc p))
+
+-- ---- the first k elements, from i on
+pub piece-here : (w : List ℕ) (k i : ℕ) → i < k → piece (k - i) w i ≡ get_or w i 0 ∷ piece (k - (i + 1)) w (i + 1)
+unfolding piece
+piece-here w k i h =
+    let e : k - i ≡ suc (k - (i + 1)) = omega arith in
+    rw (e, add-one i)
+
+pub piece-none : (w : List ℕ) (k i : ℕ) → k ≤ i → piece (k - i) w i ≡ []
+unfolding piece
+piece-none w k i h = let e : k - i ≡ 0 = omega arith in rw e

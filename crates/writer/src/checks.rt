@@ -18,8 +18,10 @@ fn unless_found(wrong: Option<usize>) -> Result<(), FaultAt>
 
 // The first k weights: each is one that a command may have.
 pub(crate) fn judge_weights(k: usize, w: &[u16]) -> Result<(), FaultAt>
+    requires { k ≤ length w.now }
     ensures { result ≡ unless_below (lowest_weight k w.now) k (Ok tt) }
 {
+    let w = &w[..k];
     unless_found((0..k).find(|&i| !limits::weight_fine(octets::word_at(w, i))))
 }
 

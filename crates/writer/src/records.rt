@@ -24,8 +24,10 @@ fn put_device(n: u64, m: u64, d: &mut [u8])
 
 // Whether each of the first k weights is 1.
 fn all_one(k: usize, w: &[u16]) -> bool
+    requires { k ≤ length w.now }
     ensures { result ≡ all_one (piece k w.now 0) }
 {
+    let w = &w[..k];
     (0..k).all(|i| octets::word_at(w, i) == 1)
 }
 
@@ -41,7 +43,7 @@ fn put_each(k: usize, w: &[u16], d: &mut [u8], at: usize)
 
 // The record of the first m weights, from 6 on, left out where each is 1. The answer is the place after it.
 fn put_weights(m: usize, w: &[u16], d: &mut [u8]) -> usize
-    requires { m ≤ 32 }
+    requires { (m ≤ 32) × (m ≤ length w.now) }
     ensures d_after { d.new ≡ sets d.old 6 (framed (weights_recs (piece m w.now 0))) }
     ensures value { result ≡ 6 + length (framed (weights_recs (piece m w.now 0))) }
     ensures upper_bound { result ≤ 74 }
@@ -107,8 +109,8 @@ impl Output<'_> {
         ensures upper_bound { self.new.end ≤ self.old.end + 14 * m }
     {
         let first = state * m;
-        for command in 0..m {
-            self.put_entry(t[first + command], state as u64, command as u64);
+        for (command, mask) in t[first..first + m].iter().enumerate() {
+            self.put_entry(*mask, state as u64, command as u64);
         }
     }
 
@@ -166,7 +168,7 @@ pub(crate) fn put_book(
     out: &mut [u8],
 ) -> usize
     requires { (n ≤ 64) × (m ≤ 32) × (c ≤ 64) × CountsFine c slots.now × (2048 ≤ length table.now) × (2176 ≤ length slots.now)
-        × (31178 ≤ length out.old) }
+        × (31178 ≤ length out.old) × (32 ≤ length weights.now) }
     ensures out_after { out.new ≡ sets out.old 0
         (bytes_of (book_from n m c (lent table.now slots.now weights.now))) }
     ensures value { result ≡ length (bytes_of (book_from n m c (lent table.now slots.now weights.now))) }

@@ -11,7 +11,7 @@ loop-x-preserved c =
     let commands = reverse_in c.args.slots.now c.args.a in
     let h : c.loop-x.x < length commands = omega (arith, c.r.ensures.0) in (
       rw (take_more commands c.loop-x.x 0 h, ← c.reverse.ensures.0 h)
-          (same_part (threes_more _ c.reverse.result) (added c.loop-x.invariant.0 c.put_right.ensures.adds)),
+          (same_part (threes_more _ c.reverse.result) (added c.loop-x.invariant.0 (c.put_right.ensures.adds (omega arith)))),
       omega arith,
     )
 
@@ -20,4 +20,4 @@ returns-clause-adds c =
     let commands = reverse_in c.args.slots.now c.args.a in
     let k : c.loop-x.x ≡ min (length commands) 8 = omega (arith, c.r.ensures.0) in
     let e : c.from.result ≡ c.loop-x.x = omega arith in
-    commands_done commands c.loop-x.x k c.loop-x.invariant.0 (rw e at c.put_spaces.ensures)
+    commands_done commands c.loop-x.x k c.loop-x.invariant.0 (rw e at (c.put_spaces.ensures.adds (omega arith)))

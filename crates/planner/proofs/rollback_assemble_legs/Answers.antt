@@ -1,7 +1,7 @@
 -- `rollback_assemble_legs` meets its contract. Assumes nothing.
 use Rattle.std.proofs.Common.{arith, ◌≤◌}
 use Rattle.assembly.proofs.Exactly.{legs-few}
-use Rattle.planner.proofs.Structs.{told_enough}
+use Rattle.planner.proofs.Structs.{legs_told}
 use Rattle.planner.proofs.rollback_assemble_legs.Goals as goal
 
 pub fill_legs-requires : goal.fill_legs-requires
@@ -10,4 +10,5 @@ fill_legs-requires c =
     (omega arith, omega arith)
 
 pub returns : goal.returns
-returns c = told_enough c.assemble-result.ensures _ _ (omega arith) c.fill_legs.ensures
+returns c =
+    legs_told _ _ c.assemble-result.ensures.bytes (λ few. absurd (omega arith)) (λ enough. c.assemble-result.ensures) c.fill_legs.ensures

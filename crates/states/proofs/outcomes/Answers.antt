@@ -4,14 +4,10 @@ use Rattle.states.proofs.Laws.{limits_in, outcomes_out, outcomes-limits}
 use Rattle.states.proofs.outcomes.Goals as goal
 use Rattle.states.proofs.outcomes.Goals.{else-in_limits-via-then-in_limits+else-state-n, else-in_limits-via-else-in_limits}
 
-pub outcomes_at-requires : goal.outcomes_at-requires
-outcomes_at-requires g c =
-    let (few, m) = limits_in _ _ (sym c.in_limits.ensures ∙ c.if-in_limits.true) in (rw (← c.n.ensures) c.if-state-n.true, few, m)
-
 pub returns-then-state-n : goal.returns-then-state-n
 returns-then-state-n g c =
     let (few, m) = limits_in _ _ (sym c.in_limits.ensures ∙ c.if-in_limits.true) in
-    c.outcomes_at.ensures ∙ sym (outcomes-limits (g.D.Outcomes.device c.args.device.now) _ _ few m)
+    c.outcomes_at.ensures (rw (← c.n.ensures) c.if-state-n.true, few, m) ∙ sym (outcomes-limits (g.D.Outcomes.device c.args.device.now) _ _ few m)
 
 pub returns-else-in_limits : goal.returns-else-in_limits
 returns-else-in_limits g c =

@@ -31,6 +31,11 @@ overflow_mul-cells c =
     let d = device_on _ _ (sym c.device_fine.ensures ∙ c.if-not-device_fine.false) in
     omega (arith, cells_below c.args.n c.args.m d.n_high, d.m_high)
 
+pub judge_weights-requires : goal.judge_weights-requires
+judge_weights-requires c =
+    let d = device_on _ _ (sym c.device_fine.ensures ∙ c.if-not-device_fine.false) in
+    omega (arith, d.m_high)
+
 pub returns-in_err-judge_weights : goal.returns-in_err-judge_weights
 returns-in_err-judge_weights c =
     at_searches _ _ _ _ _ (omega arith, (omega arith, (omega arith, (omega arith, tt)))) (ap not (sym c.device_fine.ensures ∙ c.if-not-device_fine.false)) (omega arith)

@@ -14,7 +14,7 @@ put_book-length-requires c =
     let a = c.args in
     let l = lent a.table.now a.slots.now a.weights.now in
     let (long, w) = none-refused a.n a.m a.items l a.out.now (each_byte l.slots c.type_inv.slots) (sym c.in_default.is ∙ c.judge.ensures) in
-    (w.device.n_high, w.device.m_high, w.few, counts_fine_lem a.n a.m a.items l.slots w.each_slot, long.0, long.1.0, long.1.1.1.0)
+    (w.device.n_high, w.device.m_high, w.few, counts_fine_lem a.n a.m a.items l.slots w.each_slot, long.0, long.1.0, long.1.1.1.0, long.1.1.0)
 
 pub returns : goal.returns
 returns c =

@@ -9,7 +9,7 @@ use Rattle.show.proofs.Text.put_line.Goals as goal
 
 pub returns-in_default-clause-adds : goal.returns-in_default-clause-adds
 unfolding line
-returns-in_default-clause-adds g c = ([], none_of g.T.Into.converts c.args.numbers.now c.in_default.ensures.cases, c.put_byte.ensures)
+returns-in_default-clause-adds g c = ([], none_of g.T.Into.converts c.args.numbers.now c.in_default.ensures.cases, c.put_byte.ensures.adds (omega arith))
 
 pub loop-n-init : goal.loop-n-init
 loop-n-init g c = (([], none, unchanged _), omega arith)

@@ -23,23 +23,25 @@ loop-source-init g c =
     )
     (record { below = each_below d.n c.args.self.mask; gives = sent_all_lem d c.args.command c.args.self.mask l })
 
-pub outcomes_at-outcomes-requires : goal.outcomes_at-outcomes-requires
-outcomes_at-outcomes-requires g c =
-    asked (g.D.Outcomes.device c.args.device.now) _ _ _ (sym c.in_limits.ensures ∙ c.if-not-in_limits.false) c.loop-source.invariant.below c.in-Some.ensures.steps
-
 pub returns-then-outcomes-eq0 : goal.returns-then-outcomes-eq0
 unfolding sent_along pick
 returns-then-outcomes-eq0 g c =
+    let told =
+    c.outcomes_at-outcomes.ensures
+    (asked (g.D.Outcomes.device c.args.device.now) _ _ _ (sym c.in_limits.ensures ∙ c.if-not-in_limits.false) c.loop-source.invariant.below c.in-Some.ensures.steps) in
     let gives = rw c.in-Some.ensures.steps at c.loop-source.invariant.gives in
-    rw (← c.outcomes_at-outcomes.ensures, c.if-outcomes-eq0.true) at gives
+    rw (← told, c.if-outcomes-eq0.true) at gives
 
 pub loop-source-preserved : goal.loop-source-preserved
 unfolding sent_along pick
 loop-source-preserved g c =
+    let told =
+    c.outcomes_at-outcomes.ensures
+    (asked (g.D.Outcomes.device c.args.device.now) _ _ _ (sym c.in_limits.ensures ∙ c.if-not-in_limits.false) c.loop-source.invariant.below c.in-Some.ensures.steps) in
     let gives = rw c.in-Some.ensures.steps at c.loop-source.invariant.gives in
     record {
       below = (rw c.in-Some.ensures.steps at c.loop-source.invariant.below).1;
-      gives = rw c.with-set.ensures (rw (← c.outcomes_at-outcomes.ensures, ne_eqb _ 0 c.if-outcomes-eq0.false) at gives);
+      gives = rw c.with-set.ensures (rw (← told, ne_eqb _ 0 c.if-outcomes-eq0.false) at gives);
     }
 
 pub returns : goal.returns

@@ -47,3 +47,6 @@ returns c =
       out_after = search rules ∙ whole;
       value = omega (arith, c.put_items.ensures.adds.end, ap length b, length-append (D ++ W ++ M) I, length-append (D ++ W) M, length-append D W);
     }
+
+pub put_weights-end-requires : goal.put_weights-end-requires
+put_weights-end-requires c = (omega arith, omega arith)

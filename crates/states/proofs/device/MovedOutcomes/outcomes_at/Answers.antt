@@ -7,10 +7,10 @@ use Rattle.states.proofs.Laws.{indexed-here, indexed-none}
 use Rattle.states.proofs.device.MovedOutcomes.outcomes_at.Goals as goal
 
 pub returns-then-command-self : goal.returns-then-command-self
-returns-then-command-self c =
+returns-then-command-self c (below, few, small) =
     c.outcomes.ensures
     ∙ ap (λ (row : ℕ). moved_to c.args.self.now.book.now row c.args.command) (c.unwrap_or-row.ensures ∙ rw c.copied.ensures (c.get.ensures.lookup.4 (omega arith) 0))
-    ∙ sym (indexed-here c.args.self.now.book.now c.args.self.now.index.now _ _ _ _ c.requires.0 c.if-command-self.true)
+    ∙ sym (indexed-here c.args.self.now.book.now c.args.self.now.index.now _ _ _ _ below c.if-command-self.true)
 
 pub returns-else-command-self : goal.returns-else-command-self
-returns-else-command-self c = sym (indexed-none c.args.self.now.book.now c.args.self.now.index.now _ _ _ _ c.requires.0 c.if-command-self.false)
+returns-else-command-self c (below, few, small) = sym (indexed-none c.args.self.now.book.now c.args.self.now.index.now _ _ _ _ below c.if-command-self.false)
